@@ -1,0 +1,82 @@
+-- `bits::cursor::get_run` meets its contract: field after field.
+use mathlib.Core.Path.{_≡_, refl, sym, ap, _∙_}
+use Prim.Native.Nat.{ℕ, _+_, _-_, _*_, _^_, _<_, _≤_}
+use native.Mathlib.Nat.{lt-of-lt-of-le}
+use native.Mathlib.Omega.{arith}
+use lib.Pow.{pow-mono}
+use borrow.Author.Needs.{needs}
+use lib.ListN.{length, take, replicate, getD, length-set}
+use lib.Seq.{take-length}
+use Rattle.bits.specs.Cursor.{Read, Behind}
+use Rattle.bits.proofs.Fields.{total-replicate, room}
+use Rattle.bits.proofs.cursor.Laws.{read-none, read-suc}
+use Rattle.bits.proofs.cursor.get_run.Statement.{statement}
+use Rattle.bits.proofs.cursor.get_run.Tie as tie
+
+abbrev Inv-loop : tie.InvT-loop
+Inv-loop img width xs₀ c₀ i₀ xs c i = (i ≤ length xs) × (length xs ≡ length xs₀) × Read img c₀ c (replicate i width) (take i xs)
+
+abbrev μ-loop : tie.MeasureT-loop
+μ-loop img width xs₀ c₀ i₀ xs c i = length xs₀ - i
+
+loop-holds : tie.Need-loop-holds Inv-loop μ-loop
+loop-holds c =
+    let s = c .before .before in
+    (omega arith, refl, read-none (s .args .img .now) (s .args .r) (s .pre .0))
+
+get-requires : tie.Need-get-requires Inv-loop μ-loop
+get-requires c κs =
+    let l = c .before .loop in
+    let s = c .before .before .before .before in
+    let w = s .args .width in
+    (l .inv .2 .behind, (omega arith, omega (arith, l .inv .2 .pos, total-replicate (l .i) w, room (l .i) (length (s .args .xs .now)) w (omega arith))))
+
+cast-xs : tie.Need-cast-xs Inv-loop μ-loop
+cast-xs c =
+    record { fits = lt-of-lt-of-le (c .before .get .ensures .fit .0) (pow-mono {i = c .before .before .before .before .before .before .args .width} {j = 32} (omega arith)) }
+
+mul-xs : tie.Need-mul-xs Inv-loop μ-loop
+mul-xs c = search needs
+
+slice-write-xs : tie.Need-slice-write-xs Inv-loop μ-loop
+slice-write-xs c = omega arith
+
+add-i : tie.Need-add-i Inv-loop μ-loop
+add-i c = omega arith
+
+loop-less : tie.Need-loop-less Inv-loop μ-loop
+loop-less c = omega arith
+
+loop-again : tie.Need-loop-again Inv-loop μ-loop
+loop-again c =
+    let l = c .before .before .before .before .loop in
+    let s = c .before .before .before .before .before .before .before in
+    let g = c .before .before .get in
+    (rw length-set (omega arith), length-set (l .xs) (l .i) (g .result .v) ∙ l .inv .1, read-suc (s .args .img .now) (s .args .r) (l .c) (g .result .next) (s .args .width) (l .xs) (l .i) (g .result .v) (omega arith) (l .inv .2) (g .ensures))
+
+same-length : tie.Need-same-length Inv-loop μ-loop
+same-length c = search needs
+
+returns : tie.Need-returns Inv-loop μ-loop
+returns c =
+    let l = c .before .loop in
+    let e : l .i ≡ length (l .xs) = omega arith in
+    let f : length (l .xs) ≡ length (c .before .before .before .before .args .xs .now) = l .inv .1 in
+    rw f at (rw (e, take-length (l .xs)) at (l .inv .2))
+
+pub get-run-spec : {M : Type 1} → statement M
+get-run-spec =
+    tie.close
+    (tie.spec
+    Inv-loop
+    μ-loop
+    loop-holds
+    get-requires
+    cast-xs
+    mul-xs
+    slice-write-xs
+    add-i
+    loop-less
+    loop-again
+    same-length
+    returns)

@@ -1,0 +1,78 @@
+-- `bits::cursor::put_run` meets its contract: field after field.
+use mathlib.Core.Path.{_≡_, refl, sym, ap, _∙_}
+use Prim.Native.Nat.{ℕ, _+_, _-_, _*_, _^_, _<_, _≤_}
+use native.Mathlib.Omega.{arith}
+use borrow.Author.Needs.{needs}
+use lib.ListN.{length, take, replicate, getD}
+use lib.Seq.{take-length}
+use Rattle.bits.specs.Cursor.{Wrote, Held}
+use Rattle.bits.proofs.Fields.{fit-at, total-replicate, room}
+use Rattle.bits.proofs.cursor.Laws.{wrote-none, wrote-suc}
+use Rattle.bits.proofs.cursor.put_run.Statement.{statement}
+use Rattle.bits.proofs.cursor.put_run.Tie as tie
+
+abbrev Inv-loop : tie.InvT-loop
+Inv-loop img₀ width xs c₀ i₀ img c i = (i ≤ length xs) × (length img ≡ length img₀) × Wrote img₀ img c₀ c (replicate i width) (take i xs)
+
+abbrev μ-loop : tie.MeasureT-loop
+μ-loop img₀ width xs c₀ i₀ img c i = length xs - i
+
+loop-holds : tie.Need-loop-holds Inv-loop μ-loop
+loop-holds c =
+    let s = c .before .before in
+    (omega arith, refl, wrote-none (s .args .img .now) (s .args .w) (s .pre .0))
+
+mul-put : tie.Need-mul-put Inv-loop μ-loop
+mul-put c = search needs
+
+shared-slice-read-put : tie.Need-shared-slice-read-put Inv-loop μ-loop
+shared-slice-read-put c = omega arith
+
+cast-put : tie.Need-cast-put Inv-loop μ-loop
+cast-put c = omega (arith, c .shared-slice-known2 .given (c .before .before .before .loop .i))
+
+put-requires : tie.Need-put-requires Inv-loop μ-loop
+put-requires c κs =
+    let l = c .before .before .before .loop in
+    let s = c .before .before .before .before .before .before in
+    let n = length (s .args .xs .now) in
+    let w = s .args .width in
+    (l .inv .2 .held, (omega arith, fit-at n w (s .args .xs .now) (l .i) (s .pre .1 .1) (omega arith), omega (arith, l .inv .2 .pos, total-replicate (l .i) w, room (l .i) n w (omega arith))))
+
+add-i : tie.Need-add-i Inv-loop μ-loop
+add-i c = omega arith
+
+loop-less : tie.Need-loop-less Inv-loop μ-loop
+loop-less c = omega arith
+
+loop-again : tie.Need-loop-again Inv-loop μ-loop
+loop-again c =
+    let l = c .before .before .before .before .before .before .loop in
+    let s = c .before .before .before .before .before .before .before .before .before in
+    (omega arith, omega arith, wrote-suc (s .args .img .now) (l .img) (c .before .before .put .last .0) (s .args .w) (l .c) (c .before .before .put .result) (s .args .width) (s .args .xs .now) (l .i) (omega arith) (l .inv .2) (c .before .before .put .ensures))
+
+same-length : tie.Need-same-length Inv-loop μ-loop
+same-length c = search needs
+
+returns : tie.Need-returns Inv-loop μ-loop
+returns c =
+    let xs = c .before .before .before .before .args .xs .now in
+    let e : c .before .loop .i ≡ length xs = omega arith in
+    rw (e, take-length xs) at (c .before .loop .inv .2)
+
+pub put-run-spec : {M : Type 1} → statement M
+put-run-spec =
+    tie.close
+    (tie.spec
+    Inv-loop
+    μ-loop
+    loop-holds
+    mul-put
+    shared-slice-read-put
+    cast-put
+    put-requires
+    add-i
+    loop-less
+    loop-again
+    same-length
+    returns)

@@ -1,0 +1,1 @@
+// Demand 3 over any board: definitions in specs/, the theorem in proofs/. This crate has no code.
