@@ -1,0 +1,125 @@
+//! Random sessions in the replay program's language. A seed gives the same calls everywhere.
+
+mod actions;
+mod loads;
+
+use crate::{player::Player, rng::Rng, session::Session, text::Call};
+use actions::{ACTIONS, Action, weighted};
+use std::fmt::Write;
+use tetanes::m019_namco163::Board;
+
+/// Calls and the Rust's answers to them, in order.
+pub struct Recorded {
+    pub seed: u64,
+    pub calls: Vec<Call>,
+    pub answers: Vec<String>,
+}
+
+impl Recorded {
+    /// The calls file.
+    pub fn calls_text(&self) -> String {
+        let mut text = format!("# oracle generate: seed {}, {} calls\n", self.seed, self.calls.len());
+        for call in &self.calls {
+            let _ = writeln!(text, "{call}");
+        }
+        text
+    }
+
+    /// The answers file.
+    pub fn answers_text(&self) -> String {
+        self.answers.iter().flat_map(|answer| [answer, "\n"]).collect()
+    }
+}
+
+pub fn generate(seed: u64, calls: usize) -> Recorded {
+    let recorded = Recorded { seed, calls: Vec::new(), answers: Vec::new() };
+    let mut generator = Generator { rng: Rng::new(seed), player: Player::default(), recorded, body_end: 0 };
+    while generator.recorded.calls.len() < calls {
+        generator.session(calls);
+    }
+    generator.recorded
+}
+
+struct Generator {
+    rng: Rng,
+    player: Player,
+    recorded: Recorded,
+    /// A session's body ends here, whatever an action still wants to say.
+    body_end: usize,
+}
+
+impl Generator {
+    const SHORTEST: u64 = 20;
+    const LONGEST: u64 = 100;
+
+    /// A session: a load, marks in its memory, actions, and at the end its image and arena.
+    fn session(&mut self, calls: usize) {
+        let begin = self.recorded.calls.len();
+        let length = self.rng.between(Self::SHORTEST, Self::LONGEST) as usize;
+        // A rest too short for a session of its own belongs to this one.
+        let rest = calls - begin;
+        let end = if rest < length + Self::SHORTEST as usize { calls } else { begin + length };
+        self.body_end = end.saturating_sub(2).max(begin);
+        if begin == 0 {
+            self.before_any_load();
+        }
+        self.load();
+        let favourites = [weighted(&mut self.rng), weighted(&mut self.rng)];
+        while self.recorded.calls.len() < self.body_end && self.player.session.is_some() {
+            let action = self.action(&favourites);
+            action(self);
+        }
+        for call in [Call::Image, Call::Arena].into_iter().take(end - self.recorded.calls.len()) {
+            self.record(call);
+        }
+    }
+
+    /// Half of a session goes to two actions, so that states get deep; the rest to all of them.
+    fn action(&mut self, favourites: &[Action]) -> Action {
+        match self.rng.below(8) {
+            0..4 => self.rng.pick(favourites),
+            4..6 => weighted(&mut self.rng),
+            _ => self.rng.pick(ACTIONS).1,
+        }
+    }
+
+    fn say(&mut self, call: Call) {
+        if self.recorded.calls.len() < self.body_end {
+            self.record(call);
+        }
+    }
+
+    fn record(&mut self, call: Call) {
+        self.recorded.answers.push(self.player.call(&call));
+        self.recorded.calls.push(call);
+    }
+
+    /// The loaded cartridge. Actions run only where there is one.
+    fn loaded(&self) -> &Session {
+        self.player.session.as_ref().expect("an action has a cartridge")
+    }
+
+    /// Calls that meet no cartridge, also after a refused load.
+    fn before_any_load(&mut self) {
+        self.say(Call::Sram);
+        let refused = loads::refused(&mut self.rng);
+        self.say(Call::Load(refused));
+        self.say(Call::Run { clocks: 15, room: 1 });
+    }
+
+    fn load(&mut self) {
+        if self.rng.once_in(6) {
+            let refused = loads::refused(&mut self.rng);
+            self.say(Call::Load(refused));
+        }
+        let accepted = loads::accepted(&mut self.rng);
+        self.say(Call::Load(accepted));
+        if self.player.session.is_some() {
+            actions::mark(self);
+        }
+        // An Unknown soon becomes something else; it shall be seen before.
+        if self.player.session.as_ref().is_some_and(|session| session.chip.board == Board::Unknown) {
+            actions::quiet(self);
+        }
+    }
+}

@@ -1,0 +1,15 @@
+//! Answers lists of calls by the unchanged Rust, and makes such lists.
+
+pub mod compare;
+pub mod coverage;
+pub mod generate;
+pub mod image;
+pub mod layout;
+pub mod player;
+pub mod range;
+pub mod recut;
+pub mod refusal;
+pub mod rng;
+pub mod session;
+pub mod stretches;
+pub mod text;

@@ -1,0 +1,28 @@
+//! The numbers of refused calls, as 01 lists them.
+
+#[derive(Debug, Copy, Clone, PartialEq, Eq, PartialOrd, Ord)]
+pub enum Refusal {
+    ImageLength = 1,
+    OutOfRange = 2,
+    ResetKind = 3,
+    Mapper = 4,
+    LayoutSize = 5,
+    NoReserve = 6,
+    ArenaLength = 7,
+    Address = 8,
+    FillLength = 9,
+    RunLength = 10,
+    Room = 11,
+    NoBattery = 12,
+}
+
+impl Refusal {
+    pub fn number(self) -> u8 {
+        self as u8
+    }
+
+    /// Refuses where the condition holds.
+    pub fn when(self, condition: bool) -> Result<(), Self> {
+        if condition { Err(self) } else { Ok(()) }
+    }
+}

@@ -1,0 +1,203 @@
+//! The reading notes on 01, 'Clock, reset, battery'.
+
+use crate::selftest::{
+    bench::{D, Handy, N175, N340, P, U, loaded, number, pages, refusal, written},
+    checks::Checks,
+};
+use oracle::{
+    layout::Region,
+    session::{Ran, Session},
+};
+use tetanes::m019_namco163::Board;
+
+pub fn check(t: &mut Checks) {
+    rises(t);
+    counter_writes(t);
+    counter_sentence(t);
+    runs(t);
+    rooms(t);
+    resets(t);
+    stale_flag_after_reset(t);
+    battery(t);
+}
+
+/// Counter and line lent, clocks, then rise, counter and line.
+type Rise = (u16, bool, u64, (u64, u16, bool));
+
+const RISES: &[Rise] = &[
+    (0xFFF0, true, 100, (15, 0xFFFF, true)),
+    (0xFFFE, false, 1, (1, 0xFFFF, true)),
+    (0x8000, false, 32_766, (0, 0xFFFE, false)),
+    (0x8000, false, 32_767, (32_767, 0xFFFF, true)),
+    (0x8000, false, 65_536, (32_767, 0xFFFF, true)),
+    (0xFFFD, false, 65_536, (2, 0xFFFF, true)),
+    (0x7FFE, false, 65_536, (0, 0x7FFE, false)),
+    (0xFFFF, false, 65_536, (0, 0xFFFF, false)),
+    (0x0000, false, 65_536, (0, 0x0000, false)),
+];
+
+/// "A rise is the counter reaching FFFF, not the line going from clear to pending", "on every board".
+fn rises(t: &mut Checks) {
+    for (counter, pending, clocks, expected) in RISES {
+        for load in [P, U, N175, N340] {
+            let mut cart = loaded(load);
+            cart.set_counter(*counter, *pending);
+            let rise = cart.clocks(*clocks).rise;
+            let regs = &cart.chip.regs;
+            t.eq(&format!("{counter:04X}, {clocks} clocks"), (rise, regs.irq_counter, regs.irq_pending), *expected);
+        }
+    }
+    let mut cart = loaded(N340);
+    cart.set_counter(0x8134, false);
+    t.eq("340 with 8134", cart.clocks(40_000), Ran { made: 0, rise: 32_459 });
+}
+
+/// "Counter writes clear the line".
+fn counter_writes(t: &mut Checks) {
+    let pending = || {
+        let mut p = loaded(P);
+        p.set_counter(0xFFFF, true);
+        p
+    };
+    let mut p = pending();
+    p.put(0x5000, 0x00);
+    t.eq("5000=00", (p.chip.regs.irq_counter, p.chip.regs.irq_pending), (0xFF00, false));
+    t.eq("rise after 255", p.clocks(65_536).rise, 255);
+    let mut p = pending();
+    p.put(0x5000, 0xFF);
+    t.eq("5000=FF", (p.chip.regs.irq_counter, p.chip.regs.irq_pending), (0xFFFF, false));
+    t.eq("no rise ever", (p.clocks(65_536).rise, p.chip.regs.irq_pending), (0, false));
+    let mut p = pending();
+    p.put(0x5800, 0x7F);
+    t.eq("5800=7F", (p.chip.regs.irq_counter, p.chip.regs.irq_pending), (0x7FFF, false));
+    t.eq("stopped", (p.clocks(65_536).rise, p.chip.regs.irq_counter), (0, 0x7FFF));
+}
+
+/// "from every state in range with counter 8000+n .. clock 7FFF−n is a rise": cut runs and other calls change nothing of it.
+fn counter_sentence(t: &mut Checks) {
+    for n in [0, 1, 0x134, 0x7FF0, 0x7FFE] {
+        for load in [P, D, U, N175, N340] {
+            let mut cart = loaded(load);
+            cart.set_counter(0x8000 + n, false);
+            let before = 0x7FFF - u64::from(n) - 1;
+            let mut first = cart.clocks(before / 2).rise;
+            cart.puts(&[(0x6000, 1), (0xE000, 0x80), (0xC800, 0xE0), (0x8000, 0xE1), (0xF800, 0xFF), (0x4800, 1)]);
+            first += cart.clocks(before - before / 2).rise;
+            t.eq("no rise and a clear line", (first, cart.chip.regs.irq_pending), (0, false));
+            t.eq("then the rise", (cart.clocks(1).rise, cart.chip.regs.irq_pending), (1, true));
+        }
+    }
+}
+
+fn runs(t: &mut Checks) {
+    let mut p = loaded(P);
+    p.set_counter(0x8000, false);
+    let before = p.whole();
+    t.eq("n = 0", (p.clocks(0), p.whole()), (Ran { made: 0, rise: 0 }, before));
+    for u in 0..15 {
+        for clocks in [0, 1, 14 - u, 15 - u, 16, 29, 30, 65_535, 65_536] {
+            let mut p = loaded(P);
+            p.chip.audio.update_counter = u as u8;
+            t.eq("floor((u + n) / 15)", p.clocks(clocks).made, (u + clocks) / 15);
+        }
+    }
+    let mut d = written(D, &[(0xE000, 0x80)]);
+    t.eq("not a 163", d.clocks(65_536).made, 0);
+    let mut p = written(P, &[(0xE000, 0x40)]);
+    t.eq("disabled", p.clocks(65_536).made, 0);
+}
+
+fn with_update_counter(update_counter: u8) -> Session {
+    let mut p = loaded(P);
+    p.chip.audio.update_counter = update_counter;
+    p
+}
+
+/// "65,536 clocks: u=0 → 4369; u=14 → 4370, and room for 4369 → 11"; "places from `made` on stay as lent".
+fn rooms(t: &mut Checks) {
+    for (u, room, made) in [(0, 4369, Ok(4369)), (14, 4370, Ok(4370)), (14, 4369, Err(11)), (0, 4368, Err(11))] {
+        let mut p = with_update_counter(u);
+        let before = p.whole();
+        let mut samples = vec![7.0; room];
+        let answer = number(p.run(65_536, &mut samples)).map(|ran| ran.made);
+        t.eq(&format!("u = {u}, room {room}"), answer, made);
+        if made.is_err() {
+            t.eq("a refused run alters nothing", (p.whole(), samples), (before, vec![7.0; room]));
+        }
+    }
+    let mut samples = [7.0; 4];
+    t.eq("run 30", number(loaded(P).run(30, &mut samples)), Ok(Ran { made: 2, rise: 0 }));
+    t.eq("the rest is untouched", samples, [0.0, 0.0, 7.0, 7.0]);
+    let mut p = loaded(P);
+    t.eq("fresh 163: run 10, room 0", refusal(p.run(10, &mut [])), 0);
+    t.eq("once more", refusal(p.run(10, &mut [])), 11);
+}
+
+/// A cart with every field that a reset might touch set.
+fn busy() -> Session {
+    let mut d = loaded(D);
+    d.puts(&[(0xF800, 0x85), (0x4800, 0x77), (0x8000, 0xE1), (0xC000, 0x05), (0xE800, 0xC2), (0xF000, 0x03)]);
+    d.puts(&[(0x6000, 0x99), (0x5000, 0xFE), (0x5800, 0xFF), (0xE000, 0x41)]);
+    d.clocks(1);
+    d
+}
+
+fn resets(t: &mut Checks) {
+    for kind in [0, 1] {
+        let before = busy();
+        let mut after = before.clone();
+        t.eq("reset", refusal(after.reset(kind)), 0);
+        let (old, new) = (&before.chip, &after.chip);
+        let audio = &new.audio;
+        t.eq("sound RAM, address", (*audio.ram, audio.addr, audio.auto_increment), ([0; 128], 0, false));
+        t.eq("turn", (audio.disabled, audio.update_counter, audio.current_channel), (false, 0, 7));
+        t.eq("flags 8..11", new.nt_bank_enable[8..].to_vec(), vec![true; 4]);
+        t.eq("banks 8..11", new.chr_banks[8..].to_vec(), vec![0; 4]);
+        t.eq("slots 0..7", (&new.nt_bank_enable[..8], &new.chr_banks[..8]), (&old.nt_bank_enable[..8], &old.chr_banks[..8]));
+        t.eq("written", new.prg_ram_written_to, false);
+        t.eq("board, detecting, mirroring", (new.board, new.auto_detect_board, new.mirroring), (old.board, true, old.mirroring));
+        t.eq("PRG banks", new.prg_banks, [0x01, 0x02, 0x03]);
+        t.eq("entries", (after.prg(0..64), after.chr(0..16)), (before.prg(0..64), before.chr(0..16)));
+        t.eq("arena", after.memory.raw_data(), before.memory.raw_data());
+        t.eq("used length", *after.memory.raw_battery_ext_len(), 128);
+        let regs = (new.regs.irq_counter, new.regs.irq_pending, new.regs.nt_select_lo, new.regs.nt_select_hi, new.regs.prg_ram_protect);
+        let expected = if kind == 0 { (0xFFFF, true, true, true, 0x85) } else { (0, false, false, false, 0) };
+        t.eq("Regs, kept by soft", regs, expected);
+    }
+}
+
+/// "175 with protect 1, hard reset → still 41w..48w, 6001=44 is stored; then 8000=00 → 41..48."
+fn stale_flag_after_reset(t: &mut Checks) {
+    let mut cart = written(N175, &[(0xC000, 1)]);
+    t.eq("hard reset", refusal(cart.reset(1)), 0);
+    t.eq("still writable", cart.prg(24..32), pages("41w..48w"));
+    cart.put(0x6001, 0x44);
+    t.eq("stored", cart.get(0x6001), 0x44);
+    cart.put(0x8000, 0x00);
+    t.eq("remapped", cart.prg(24..32), pages("41..48"));
+}
+
+/// "Sync copies the 128 sound bytes to the reserve's start (P: 50176..50303)"; "Refusal 12 goes by the used length".
+fn battery(t: &mut Checks) {
+    for writes in [&[] as &[(u16, u8)], &[(0xE000, 0x80)]] {
+        let mut cart = written(D, writes);
+        for place in 0..128 {
+            cart.chip.audio.ram[place] = place as u8 + 1;
+        }
+        let mut arena = cart.memory.raw_data().clone();
+        t.eq("sync", refusal(cart.sync_battery()), 0);
+        for place in 0..128 {
+            arena[50_176 + place] = place as u8 + 1;
+        }
+        t.eq("128 bytes and no other", cart.memory.raw_data(), &arena);
+
+        t.eq("fill", refusal(cart.fill(Region::Battery, &[0x5C; 128])), 0);
+        let mut expected = cart.clone();
+        expected.chip.audio.ram.as_mut().fill(0x5C);
+        t.eq("restore", refusal(cart.restore_battery()), 0);
+        t.eq("the sound RAM and nothing else", cart.whole(), expected.whole());
+    }
+    let mut u = written(U, &[(0x4800, 1)]);
+    t.eq("U as a 163", u.chip.board, Board::Namco163);
+    t.eq("its sync and restore", (refusal(u.sync_battery()), refusal(u.restore_battery())), (12, 12));
+}

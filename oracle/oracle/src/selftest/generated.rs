@@ -1,0 +1,150 @@
+//! Tests of the generator, of recutting and of the comparison.
+
+use super::checks::Checks;
+use oracle::{
+    compare::compare,
+    coverage::Coverage,
+    generate::{Recorded, generate},
+    player::Player,
+    recut::recut,
+    stretches::Trace,
+    text::{Call, Line, parse},
+};
+
+const SEED: u64 = 1;
+const COVERAGE_CALLS: usize = 60_000;
+
+/// Every class of calls is reached, counted from the played states.
+pub fn coverage(t: &mut Checks) {
+    let coverage = Coverage::of(&generate(SEED, COVERAGE_CALLS).calls);
+    for (class, count) in &coverage.counts {
+        t.holds(&format!("`{class}` is reached"), *count > 0);
+    }
+    t.eq("reached and not listed", &coverage.unlisted, &Default::default());
+    if let Some((class, count)) = coverage.rarest() {
+        println!("coverage: {} classes in {COVERAGE_CALLS} calls, the rarest {count} times ({class})", coverage.counts.len());
+    }
+}
+
+/// The same seed gives the same bytes, another seed others; files say what was played, and calls read back as they were.
+pub fn repeatable(t: &mut Checks) {
+    for calls in [1, 2, 3, 5, 19, 20, 100, 5_000] {
+        let (first, again, other) = (generate(7, calls), generate(7, calls), generate(8, calls));
+        t.eq("calls", first.calls.len(), calls);
+        t.holds("same seed, calls file", first.calls_text() == again.calls_text());
+        t.holds("same seed, answers file", first.answers_text() == again.answers_text());
+        t.holds("other seed", calls < 5 || first.calls_text() != other.calls_text());
+        let read_back = |call: &Call| parse(call.to_string().as_bytes()) == Line::Call(call.clone());
+        t.holds("calls read back", first.calls.iter().all(read_back));
+        let comparison = compare(first.calls_text().as_bytes(), first.answers_text().as_bytes());
+        t.eq("files agree", (comparison.calls, comparison.differences), (calls, vec![]));
+    }
+}
+
+/// Demand 3 on the Rust: with runs cut differently, other answers, joined samples and rises are the same.
+pub fn recuts(t: &mut Checks) {
+    for seed in 0..8 {
+        let calls = generate(seed, 4_000).calls_text().into_bytes();
+        let trace = Trace::of(&calls);
+        for cut in 0..3 {
+            let cut_calls = recut(&calls, cut);
+            let what = format!("seed {seed}, cut {cut}");
+            t.holds(&format!("{what}: the list is another"), cut_calls != calls);
+            t.eq(&format!("{what}: first other trace"), first_difference(&trace, &Trace::of(&cut_calls)), None);
+        }
+        let heard = trace.stretches.iter().any(|stretch| stretch.samples.iter().any(|sample| sample != "$00000000"));
+        t.holds("there are samples", heard);
+        t.holds("there are rises", trace.stretches.iter().any(|stretch| !stretch.rises.is_empty()));
+    }
+    rises_since_load(t);
+}
+
+fn first_difference(left: &Trace, right: &Trace) -> Option<String> {
+    if left.others.len() != right.others.len() {
+        return Some(format!("{} other calls, then {}", left.others.len(), right.others.len()));
+    }
+    let other = left.others.iter().zip(&right.others).position(|(left, right)| left != right);
+    let stretch = left.stretches.iter().zip(&right.stretches).position(|(left, right)| left != right);
+    match (other, stretch) {
+        (None, None) => None,
+        (Some(index), _) => Some(format!("other call {index}: {}, then {}", left.others[index], right.others[index])),
+        (_, Some(index)) => Some(format!("stretch {index}: {:?}, then {:?}", left.stretches[index], right.stretches[index])),
+    }
+}
+
+/// The reading notes on 01, 'Rises': "the last run answers rise 1, and its stretch's rises are [2]".
+fn rises_since_load(t: &mut Checks) {
+    let calls = "load 19 0 0 1 32768 8192 128 8192 0 2048\nwrite $5000 $FD\nwrite $5800 $FF\nrun 1 0\nread $6000\nrun 5 0\n";
+    let mut player = Player::default();
+    let answers: Vec<_> = calls.lines().filter_map(|line| player.line(line.as_bytes())).collect();
+    t.eq("the last run", answers.last().map(String::as_str), Some("ok 0 1"));
+    let rises: Vec<_> = Trace::of(calls.as_bytes()).stretches.into_iter().map(|stretch| stretch.rises).collect();
+    t.eq("rises of the stretches", rises, vec![vec![], vec![], vec![], vec![], vec![2]]);
+}
+
+/// A kind of answer: its name, the calls that give it, which word to change and which digit of it, from the end.
+type Kind = (&'static str, fn(&Call, &str) -> bool, usize, usize);
+
+const KINDS: [Kind; 13] = [
+    ("a read's byte", |call, answer| matches!(call, Call::Read(_)) && answer.starts_with("ok"), 1, 0),
+    ("a write's PRG mask", |call, answer| matches!(call, Call::Write(..)) && answer.contains(" 8 24 "), 1, 7),
+    ("a write's PRG count", |call, answer| matches!(call, Call::Write(..)) && answer.contains(" 8 32 "), 2, 0),
+    ("a write's lowest PRG page", |call, answer| matches!(call, Call::Write(..)) && answer.contains(" 0 64 "), 3, 0),
+    ("a write's CHR mask", |call, answer| matches!(call, Call::Write(..)) && answer.ends_with(" 8 8"), 4, 2),
+    ("a run's samples made", |call, answer| matches!(call, Call::Run { .. }) && answer.starts_with("ok 1 "), 1, 0),
+    ("a run's rise", |call, answer| matches!(call, Call::Run { .. }) && answer.starts_with("ok 0 15"), 2, 0),
+    ("a sample's last bit", |call, answer| matches!(call, Call::Run { .. }) && answer.starts_with("ok 2 0 $3"), 4, 0),
+    ("an image digit", |call, answer| matches!(call, Call::Image) && answer.starts_with("ok"), 1, 300),
+    ("the arena's Adler-32", |call, answer| matches!(call, Call::Arena) && answer.starts_with("ok"), 2, 0),
+    ("the arena's length", |call, answer| matches!(call, Call::Arena) && answer.starts_with("ok"), 1, 0),
+    ("the battery's length", |call, answer| matches!(call, Call::Sram) && answer.starts_with("ok"), 2, 0),
+    ("a refusal", |_, answer| answer.starts_with("refused"), 1, 0),
+];
+
+/// One changed bit is reported as exactly one difference, at its line; so are a missing and a surplus line.
+pub fn comparison(t: &mut Checks) {
+    let recorded = generate(SEED, 10_000);
+    for (what, gives, word, digit) in KINDS {
+        let pairs = recorded.calls.iter().zip(&recorded.answers).enumerate();
+        let given: Vec<_> = pairs.filter(|(_, (call, answer))| gives(call, answer)).collect();
+        t.holds(&format!("{what} occurs twice"), given.len() > 1);
+        for (index, (_, answer)) in given.first().into_iter().chain(given.last()) {
+            reported(t, &recorded, what, *index, &flipped(answer, word, digit));
+        }
+    }
+    missing_and_surplus(t, &recorded);
+}
+
+/// The answer with the lowest bit of one digit changed.
+fn flipped(answer: &str, word: usize, digit: usize) -> String {
+    let mut words: Vec<String> = answer.split(' ').map(String::from).collect();
+    let place = words[word].len() - 1 - digit;
+    let old = &words[word][place..=place];
+    let new = format!("{:X}", u8::from_str_radix(old, 16).expect("a digit is changed") ^ 1);
+    words[word].replace_range(place..=place, &new);
+    words.join(" ")
+}
+
+fn reported(t: &mut Checks, recorded: &Recorded, what: &str, index: usize, changed: &str) {
+    let mut answers = recorded.answers.clone();
+    answers[index] = changed.into();
+    let comparison = compare(recorded.calls_text().as_bytes(), (answers.join("\n") + "\n").as_bytes());
+    t.eq(what, comparison.differences.len(), 1);
+    for difference in comparison.differences {
+        t.eq(what, difference.answer_line, index + 1);
+        // The calls file begins with a comment.
+        t.eq(what, difference.call, Some((index + 2, recorded.calls[index].to_string())));
+        t.eq(what, difference.expected.as_ref(), Some(&recorded.answers[index]));
+        t.eq(what, difference.found.as_deref(), Some(changed));
+    }
+}
+
+fn missing_and_surplus(t: &mut Checks, recorded: &Recorded) {
+    let calls = recorded.calls_text();
+    let answers = recorded.answers_text();
+    let short = recorded.answers[..9_999].join("\n");
+    let missing = compare(calls.as_bytes(), short.as_bytes()).differences;
+    t.eq("a missing line", missing.iter().map(|d| (d.answer_line, d.found.clone())).collect(), vec![(10_000, None)]);
+    let surplus = compare(calls.as_bytes(), (answers + "ok\n").as_bytes()).differences;
+    t.eq("a surplus line", surplus.iter().map(|d| (d.answer_line, d.expected.clone())).collect(), vec![(10_001, None)]);
+}

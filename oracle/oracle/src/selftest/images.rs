@@ -1,0 +1,114 @@
+//! Tests of the image encoder: a fresh P, and the first bit of every field.
+
+use super::{
+    bench::{Handy, P, loaded, number},
+    checks::Checks,
+};
+use oracle::{image::LEN, session::Session};
+use tetanes::{m019_namco163::Board, ppu::Mirroring};
+
+type Lending = fn(&mut Session);
+
+/// The reading notes' 'First bits': field, first bit, width of one number, how many, and how to give the first and the last of them the
+/// greatest number that the field can be lent (in range, so that the image can be written).
+const FIELDS: &[(&str, usize, usize, usize, Lending)] = &[
+    ("counter", 0, 16, 1, |s| s.chip.regs.irq_counter = 0xFFFF),
+    ("pending", 16, 1, 1, |s| s.chip.regs.irq_pending = true),
+    ("low select", 17, 1, 1, |s| s.chip.regs.nt_select_lo = true),
+    ("high select", 18, 1, 1, |s| s.chip.regs.nt_select_hi = true),
+    ("protect", 19, 8, 1, |s| s.chip.regs.prg_ram_protect = 0xFF),
+    ("submapper", 45, 8, 1, |s| s.chip.submapper_num = 0xFF),
+    ("detecting", 53, 1, 1, |s| s.chip.auto_detect_board = true),
+    ("written", 57, 1, 1, |s| s.chip.prg_ram_written_to = true),
+    ("CIRAM flags", 58, 1, 12, |s| (s.chip.nt_bank_enable[0], s.chip.nt_bank_enable[11]) = (true, true)),
+    ("CHR banks", 70, 8, 12, |s| (s.chip.chr_banks[0], s.chip.chr_banks[11]) = (0xFF, 0xFF)),
+    ("PRG banks", 166, 6, 3, |s| (s.chip.prg_banks[0], s.chip.prg_banks[2]) = (63, 63)),
+    ("sound RAM", 184, 8, 128, |s| (s.chip.audio.ram[0], s.chip.audio.ram[127]) = (0xFF, 0xFF)),
+    ("sound address", 1208, 7, 1, |s| s.chip.audio.addr = 127),
+    ("auto", 1215, 1, 1, |s| s.chip.audio.auto_increment = true),
+    ("disabled", 1216, 1, 1, |s| s.chip.audio.disabled = true),
+    ("phases", 1352, 24, 8, |s| {
+        let phases = s.chip.audio.raw_phase_ext_mut();
+        (phases[0], phases[7]) = (0xFF_FFFF, 0xFF_FFFF);
+    }),
+];
+
+/// Fields whose bits cannot all be set in range: field, first bit, width, number lent, how.
+const NUMBERS: &[(&str, usize, usize, u64, Lending)] = &[
+    ("Unknown", 27, 2, 0, |s| s.chip.board = Board::Unknown),
+    ("163", 27, 2, 1, |s| s.chip.board = Board::Namco163),
+    ("175", 27, 2, 2, |s| s.chip.board = Board::Namco175),
+    ("340", 27, 2, 3, |s| s.chip.board = Board::Namco340),
+    ("mapper 19", 29, 16, 19, |s| s.chip.mapper_num = 19),
+    ("mapper 210", 29, 16, 210, |s| s.chip.mapper_num = 210),
+    ("Vertical", 54, 3, 0, |s| s.chip.mirroring = Mirroring::Vertical),
+    ("Horizontal", 54, 3, 1, |s| s.chip.mirroring = Mirroring::Horizontal),
+    ("A", 54, 3, 2, |s| s.chip.mirroring = Mirroring::SingleScreenA),
+    ("B", 54, 3, 3, |s| s.chip.mirroring = Mirroring::SingleScreenB),
+    ("FourScreen", 54, 3, 4, |s| s.chip.mirroring = Mirroring::FourScreen),
+    ("update counter", 1217, 4, 14, |s| s.chip.audio.update_counter = 14),
+    ("channel", 1221, 3, 5, |s| s.chip.audio.current_channel = 5),
+    ("output 0", 1224, 12, 3825, |s| s.chip.audio.channel_out[0] = 3825.0),
+    ("output 7", 1308, 12, 3720, |s| s.chip.audio.channel_out[7] = 3720.0),
+    ("`out`", 1320, 32, 0x3EAA_AAAB, |s| s.chip.audio.out = 1.0 / 3.0),
+    ("PRG 0", 1544, 11, 51 << 1, |s| s.lend_prg(0, "51")),
+    ("PRG 1", 1555, 11, 51 << 1 | 1, |s| s.lend_prg(1, "51w")),
+    ("PRG 63", 1544 + 63 * 11, 11, 3, |s| s.lend_prg(63, "1w")),
+    ("CHR 0", 1544 + 64 * 11, 11, 50 << 1 | 1, |s| *s.memory.raw_chr_pages_mut()[0].raw_mut() = (50 * 1024) | (1 << 31)),
+    ("CHR 15", 2413, 11, 49 << 1, |s| *s.memory.raw_chr_pages_mut()[15].raw_mut() = 49 * 1024),
+    ("PRG-ROM", 2424, 10, 512, |s| lend_pages(s, |layout| layout.prg_rom = 512)),
+    ("PRG-RAM", 2434, 7, 64, |s| lend_pages(s, |layout| layout.prg_ram = 64)),
+    ("reserve", 2441, 1, 1, |_| ()),
+    ("CHR", 2442, 9, 256, |s| lend_pages(s, |layout| layout.chr = 256)),
+    ("CHR-RAM", 2451, 1, 1, |s| lend_pages(s, |layout| layout.chr_ram = true)),
+    ("CIRAM", 2452, 3, 4, |s| lend_pages(s, |layout| layout.ciram = 4)),
+    ("used", 2455, 1, 0, |s| *s.memory.raw_battery_ext_len_mut() = 0),
+];
+
+fn lend_pages(session: &mut Session, change: fn(&mut oracle::layout::Layout)) {
+    let mut layout = session.layout();
+    change(&mut layout);
+    layout.set(&mut session.memory);
+}
+
+pub fn check(t: &mut Checks) {
+    fresh(t);
+    let fresh = image(&loaded(P));
+    for (what, first, width, count, lend) in FIELDS {
+        let mut session = loaded(P);
+        lend(&mut session);
+        let last = first + width * (count - 1);
+        let mut expected = fresh;
+        for bit in (*first..first + width).chain(last..last + width) {
+            expected[bit / 8] |= 0x80 >> (bit % 8);
+        }
+        t.holds(what, image(&session) == expected);
+    }
+    for (what, first, width, value, lend) in NUMBERS {
+        let mut session = loaded(P);
+        lend(&mut session);
+        let mut expected = fresh;
+        for place in 0..*width {
+            let bit = first + width - 1 - place;
+            let mask = 0x80 >> (bit % 8);
+            expected[bit / 8] = if value >> place & 1 == 1 { expected[bit / 8] | mask } else { expected[bit / 8] & !mask };
+        }
+        t.holds(what, image(&session) == expected);
+    }
+}
+
+fn image(session: &Session) -> [u8; LEN] {
+    let mut buffer = [0; LEN];
+    number(session.image(&mut buffer)).expect("the state is in range");
+    buffer
+}
+
+/// "Fresh P → bytes 0..7 = 00 00 00 08 00 98 00 80, 151..152 = 00 07, 303..306 = 08 04 41 05."
+fn fresh(t: &mut Checks) {
+    let image = image(&loaded(P));
+    t.eq("bytes 0..7", &image[..8], &[0x00, 0x00, 0x00, 0x08, 0x00, 0x98, 0x00, 0x80]);
+    t.eq("bytes 151..152", &image[151..153], &[0x00, 0x07]);
+    t.eq("bytes 303..306", &image[303..], &[0x08, 0x04, 0x41, 0x05]);
+    let other = [8..151, 153..193];
+    t.holds("zero up to the entries", other.into_iter().all(|bytes| image[bytes].iter().all(|byte| *byte == 0)));
+}

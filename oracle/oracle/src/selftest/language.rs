@@ -1,0 +1,146 @@
+//! The replay program's language: lines and their answers.
+
+use super::checks::Checks;
+use oracle::{
+    compare::compare,
+    layout::Region,
+    player::{NO_CARTRIDGE, Player, adler32, is_free_error},
+    text::{Call, LINE_LIMIT, Line, parse},
+};
+
+pub fn check(t: &mut Checks) {
+    numbers(t);
+    malformed(t);
+    session(t);
+    free_words(t);
+    t.eq("Adler-32", adler32(b"Wikipedia"), 0x11E6_0398);
+    t.eq("Adler-32 of 858,112 bytes FF", adler32(&[0xFF; 858_112]), adler32_plain(&[0xFF; 858_112]));
+}
+
+/// Byte by byte, each sum reduced at once.
+fn adler32_plain(bytes: &[u8]) -> u32 {
+    let step = |(low, high): (u32, u32), byte: &u8| {
+        let low = (low + u32::from(*byte)) % 65_521;
+        (low, (high + low) % 65_521)
+    };
+    let (low, high) = bytes.iter().fold((1, 0), step);
+    high << 16 | low
+}
+
+fn numbers(t: &mut Checks) {
+    for (line, call) in [
+        ("write $E000 63", Call::Write(0xE000, 63)),
+        ("write 57344 $3f", Call::Write(0xE000, 63)),
+        ("write $0e000 063", Call::Write(0xE000, 63)),
+        ("region-peek chr 18446744073709551615", Call::RegionPeek(Region::Chr, u64::MAX)),
+        ("region-peek chr $FFFFFFFFFFFFFFFF", Call::RegionPeek(Region::Chr, u64::MAX)),
+        ("fill battery 00fF", Call::Fill(Region::Battery, vec![0x00, 0xFF])),
+        ("fill battery", Call::Fill(Region::Battery, vec![])),
+        ("fill battery ", Call::Fill(Region::Battery, vec![])),
+        ("run 18446744073709551615 8192", Call::Run { clocks: u64::MAX, room: 8192 }),
+    ] {
+        t.eq(line, parse(line.as_bytes()), Line::Call(call));
+    }
+    for line in ["", "#", "# read $8000"] {
+        t.eq("passed over", parse(line.as_bytes()), Line::Nothing);
+    }
+}
+
+const MALFORMED: [&str; 30] = [
+    " ",
+    "jump",
+    "Read $8000",
+    " read $8000",
+    "read  $8000",
+    "read $8000 ",
+    "read",
+    "read 8000 1",
+    "read $10000",
+    "read -1",
+    "read +1",
+    "read $",
+    "read 0x8000",
+    "read $G000",
+    "read 18446744073709551616",
+    "write $8000",
+    "write $8000 256",
+    "chr-read 65536",
+    "chr-write 0 $100",
+    "fill ex-ram 00",
+    "fill prg-rom 0",
+    "fill prg-rom 0G",
+    "fill prg-rom 00 00",
+    "region-write prg-rom 0",
+    "run 1",
+    "run 1 8193",
+    "reset",
+    "reset 1",
+    "load 19 256 0 1 0 0 128 0 0 0",
+    "load 19 0 0 1 0 0 128 0 0",
+];
+
+fn malformed(t: &mut Checks) {
+    let mut player = Player::default();
+    for line in MALFORMED {
+        t.holds(line, player.line(line.as_bytes()).is_some_and(|answer| is_free_error(&answer)));
+    }
+    let zeros = |count| format!("read {}", "0".repeat(count));
+    t.eq("the longest line", parse(zeros(LINE_LIMIT - 5).as_bytes()), Line::Call(Call::Read(0)));
+    for line in [zeros(LINE_LIMIT - 4), format!("#{}", zeros(LINE_LIMIT))] {
+        t.holds("a line too long", matches!(parse(line.as_bytes()), Line::Malformed(_)));
+    }
+    t.holds("bytes that are no text", matches!(parse(&[b'r', 0xFF]), Line::Malformed(_)));
+}
+
+/// A short session with the answers that DESIGN's table gives.
+const SESSION: [(&str, &str); 27] = [
+    ("sram", NO_CARTRIDGE),
+    ("load 20 0 0 1 32768 8192 128 8192 0 2048", "refused 4"),
+    ("run 0 0", NO_CARTRIDGE),
+    ("arena", NO_CARTRIDGE),
+    ("load 19 0 0 1 32768 8192 128 8192 0 2048", "ok"),
+    ("load 19 0 0 1 32768 8192 0 8192 0 2048", "refused 6"),
+    ("load 19 0 0 1 524289 8192 0 8192 0 2048", "refused 5"),
+    ("sram", "ok 41984 8320"),
+    ("write $8000 $E1", "ok $0000000000000000 0 64 $0001 1 0"),
+    ("write $E000 $3F", "ok $000000FF00000000 8 32 $0000 0 16"),
+    ("write $47FF 0", "refused 8"),
+    ("write $6000 $aB", "ok $0000000000000000 0 64 $0000 0 16"),
+    ("read $6000", "ok $AB"),
+    ("peek $6400", "ok $00"),
+    ("chr-write $2000 1", "ok"),
+    ("chr-read $2000", "ok $00"),
+    ("fill prg-rom AAbb", "ok"),
+    ("region-peek prg-rom 32769", "ok $BB"),
+    ("region-write ciram 2047 9", "ok"),
+    ("run 30 2", "ok 2 0 $00000000 $00000000"),
+    ("run 15 0", "refused 11"),
+    ("run 65537 0", "refused 10"),
+    ("reset soft", "ok"),
+    ("reset hard", "ok"),
+    ("sync-battery", "ok"),
+    ("restore-battery", "ok"),
+    ("arena", "ok 53248 $C1B4021A"),
+];
+
+fn session(t: &mut Checks) {
+    let mut player = Player::default();
+    for (line, answer) in SESSION {
+        t.eq(line, player.line(line.as_bytes()).as_deref(), Some(answer));
+    }
+    let image = player.line(b"image").unwrap_or_default();
+    t.eq("an image's digits", image.strip_prefix("ok ").map(str::len), Some(614));
+}
+
+/// The words of an error are free, but for the one about the missing cartridge; and an error is no answer to a call.
+fn free_words(t: &mut Checks) {
+    for (line, answer, differences) in [
+        ("jump", "error: what?", 0),
+        ("jump", "ok", 1),
+        ("jump", NO_CARTRIDGE, 1),
+        ("sram", NO_CARTRIDGE, 0),
+        ("sram", "error: nothing is loaded", 1),
+    ] {
+        t.eq(line, compare(line.as_bytes(), answer.as_bytes()).differences.len(), differences);
+    }
+}

@@ -1,0 +1,242 @@
+//! A loaded cartridge: the Rust's `Namco163` and `Memory`, and the calls as 01 composes them, with 01's refusals in 01's order.
+//!
+//! The Rust's `Memory` holds both what 01 calls the state (entries, layout, used length) and the lent arena (`data`). Both can be set
+//! through the accessors, so that a call can be given a state out of range or an arena of another length.
+
+use crate::{
+    image,
+    layout::{Layout, Load, PAGE, Region},
+    range::in_range,
+    refusal::Refusal,
+};
+use tetanes::{
+    cart::{Cart, GameInfo, NesHeader},
+    common::ResetKind,
+    m019_namco163::{Audio, Board, Namco163},
+    mapper::Map,
+    memory::{Memory, MemoryLayout, Page},
+};
+
+pub const RUN_LIMIT: u64 = 65_536;
+const FIRST_ADDRESS: u16 = 0x4800;
+
+#[derive(Clone)]
+pub struct Session {
+    pub chip: Namco163,
+    pub memory: Memory,
+}
+
+/// The changed entries of one page table.
+#[derive(Debug, Clone, Copy, PartialEq, Eq)]
+pub struct Changed {
+    pub mask: u64,
+    pub count: u32,
+    /// The table's length where no entry changed.
+    pub lowest: u32,
+}
+
+impl Changed {
+    fn between(before: &[Page], after: &[Page]) -> Self {
+        let changed = |page: &usize| before[*page] != after[*page];
+        let mask = (0..before.len()).filter(changed).fold(0, |mask, page| mask | 1 << page);
+        Self { mask, count: u64::count_ones(mask), lowest: mask.trailing_zeros().min(before.len() as u32) }
+    }
+}
+
+/// A CPU write's answer.
+#[derive(Debug, Clone, Copy, PartialEq, Eq)]
+pub struct Written {
+    pub prg: Changed,
+    pub chr: Changed,
+}
+
+/// A run's answer: the samples made, and the clock of the rise, from 1, or 0.
+#[derive(Debug, Clone, Copy, PartialEq, Eq)]
+pub struct Ran {
+    pub made: u64,
+    pub rise: u64,
+}
+
+impl Session {
+    pub fn load(load: &Load, arena_len: u64) -> Result<Self, Refusal> {
+        Refusal::Mapper.when(load.mapper != 19 && load.mapper != 210)?;
+        let layout = load.layout().ok_or(Refusal::LayoutSize)?;
+        Refusal::NoReserve.when(load.mapper == 19 && load.battery == 0)?;
+        Refusal::ArenaLength.when(arena_len != layout.arena_len())?;
+
+        let mut cart = cart(load);
+        let Ok(chip) = Namco163::load(&mut cart);
+        Ok(Self { chip, memory: cart.memory })
+    }
+
+    pub fn layout(&self) -> Layout {
+        Layout::of(&self.memory)
+    }
+
+    pub fn read(&mut self, addr: u16) -> Result<u8, Refusal> {
+        self.refuse_cpu(addr)?;
+        Ok(self.chip.prg_read(addr).unwrap_or_else(|| self.memory.prg_peek(addr)))
+    }
+
+    pub fn peek(&self, addr: u16) -> Result<u8, Refusal> {
+        self.refuse_cpu(addr)?;
+        Ok(self.chip.prg_peek(addr).unwrap_or_else(|| self.memory.prg_peek(addr)))
+    }
+
+    pub fn write(&mut self, addr: u16, val: u8) -> Result<Written, Refusal> {
+        self.refuse_cpu(addr)?;
+        let (prg, chr) = (*self.memory.prg_pages(), *self.memory.chr_pages());
+        self.memory.prg_write(addr, val);
+        self.chip.write_register(&mut self.memory, addr, val);
+        Ok(Written { prg: Changed::between(&prg, self.memory.prg_pages()), chr: Changed::between(&chr, self.memory.chr_pages()) })
+    }
+
+    pub fn chr_read(&self, addr: u16) -> Result<u8, Refusal> {
+        self.refuse_arena()?;
+        Ok(self.memory.chr_peek(addr))
+    }
+
+    pub fn chr_write(&mut self, addr: u16, val: u8) -> Result<(), Refusal> {
+        self.refuse_arena()?;
+        self.memory.chr_write(addr, val);
+        Ok(())
+    }
+
+    pub fn fill(&mut self, region: Region, bytes: &[u8]) -> Result<(), Refusal> {
+        self.refuse_arena()?;
+        let place = self.memory.region_mut(region.src()).get_mut(..bytes.len());
+        place.ok_or(Refusal::FillLength)?.copy_from_slice(bytes);
+        Ok(())
+    }
+
+    pub fn region_peek(&self, region: Region, offset: u64) -> Result<u8, Refusal> {
+        self.refuse_arena()?;
+        Ok(self.memory.region_peek(region.src(), offset as usize))
+    }
+
+    pub fn region_write(&mut self, region: Region, offset: u64, val: u8) -> Result<(), Refusal> {
+        self.refuse_arena()?;
+        self.memory.region_write(region.src(), offset as usize, val);
+        Ok(())
+    }
+
+    /// Start and length. It reads no byte, so it does not take the arena.
+    pub fn sram(&self) -> Result<(u64, u64), Refusal> {
+        self.refuse_state()?;
+        let range = self.memory.raw_sram_range();
+        Ok((range.start as u64, range.len() as u64))
+    }
+
+    /// The clocks run on a copy, since a run that lacks room is refused and alters nothing.
+    pub fn run(&mut self, clocks: u64, samples: &mut [f32]) -> Result<Ran, Refusal> {
+        self.refuse_state()?;
+        Refusal::RunLength.when(clocks > RUN_LIMIT)?;
+        let mut chip = self.chip.clone();
+        let mut made = Vec::new();
+        let mut rise = 0;
+        for clock in 1..=clocks {
+            let single = single_clock(&mut chip);
+            made.extend(single.sample);
+            if single.rise {
+                rise = clock;
+            }
+        }
+        samples.get_mut(..made.len()).ok_or(Refusal::Room)?.copy_from_slice(&made);
+        self.chip = chip;
+        Ok(Ran { made: made.len() as u64, rise })
+    }
+
+    pub fn reset(&mut self, kind: u64) -> Result<(), Refusal> {
+        self.refuse_state()?;
+        let kind = match kind {
+            0 => ResetKind::Soft,
+            1 => ResetKind::Hard,
+            _ => return Err(Refusal::ResetKind),
+        };
+        self.chip.reset(kind);
+        Ok(())
+    }
+
+    pub fn sync_battery(&mut self) -> Result<(), Refusal> {
+        self.refuse_battery()?;
+        self.chip.sync_battery(&mut self.memory);
+        Ok(())
+    }
+
+    pub fn restore_battery(&mut self) -> Result<(), Refusal> {
+        self.refuse_battery()?;
+        self.chip.restore_battery(&self.memory);
+        Ok(())
+    }
+
+    pub fn image(&self, buffer: &mut [u8]) -> Result<(), Refusal> {
+        Refusal::ImageLength.when(buffer.len() != image::LEN)?;
+        self.refuse_state()?;
+        buffer.copy_from_slice(&image::encode(self));
+        Ok(())
+    }
+
+    fn refuse_state(&self) -> Result<(), Refusal> {
+        Refusal::OutOfRange.when(!in_range(&self.chip, &self.memory))
+    }
+
+    fn refuse_arena(&self) -> Result<(), Refusal> {
+        self.refuse_state()?;
+        Refusal::ArenaLength.when(self.memory.len() as u64 != self.layout().arena_len())
+    }
+
+    fn refuse_cpu(&self, addr: u16) -> Result<(), Refusal> {
+        self.refuse_arena()?;
+        Refusal::Address.when(addr < FIRST_ADDRESS)
+    }
+
+    fn refuse_battery(&self) -> Result<(), Refusal> {
+        self.refuse_arena()?;
+        Refusal::NoBattery.when(*self.memory.raw_battery_ext_len() == 0)
+    }
+}
+
+/// What one clock shows.
+struct SingleClock {
+    sample: Option<f32>,
+    rise: bool,
+}
+
+fn single_clock(chip: &mut Namco163) -> SingleClock {
+    let counter = chip.regs.irq_counter;
+    let update = chip.board == Board::Namco163 && !chip.audio.disabled && chip.audio.update_counter == 14;
+    chip.clock();
+    let now = chip.regs.irq_counter;
+    SingleClock { sample: update.then(|| chip.output()), rise: now != counter && now == 0xFFFF }
+}
+
+/// The cartridge of an accepted load. A database entry, where there is one, names the same numbers as the header.
+fn cart(load: &Load) -> Cart {
+    let mut layout = MemoryLayout::default();
+    layout.prg_rom = load.prg_rom as usize;
+    layout.prg_ram = load.prg_ram as usize;
+    layout.battery_ext = load.battery as usize;
+    layout.chr = load.chr as usize;
+    layout.chr_writable = load.chr_ram != 0;
+    layout.ciram = load.ciram as usize;
+    let mapper_num = load.mapper as u16;
+    let submapper_num = load.submapper;
+    Cart {
+        header: NesHeader { mapper_num, submapper_num, flags: load.flags },
+        game_info: (load.in_database != 0).then_some(GameInfo { mapper_num, submapper_num }),
+        memory: Memory::new(layout),
+    }
+}
+
+/// How many samples a run of that many clocks makes, by 01's closed form; the generator chooses rooms by it.
+pub fn samples_made(chip: &Namco163, clocks: u64) -> u64 {
+    if chip.board == Board::Namco163 && !chip.audio.disabled { (u64::from(chip.audio.update_counter) + clocks) / 15 } else { 0 }
+}
+
+/// An entry as a page number and its flag.
+pub fn entry(page: Page) -> (u64, bool) {
+    (page.offset() as u64 / PAGE, page.is_writable())
+}
+
+/// Bytes of the sound RAM, and so of the used battery.
+pub const SOUND_RAM: usize = Audio::RAM_SIZE;
