@@ -1,0 +1,259 @@
+-- Every mapping step gives entries on page starts inside the arena with bit 30 clear, and tables as long as before. Assumes nothing.
+use Prim.Native.Nat.{ℕ, zero, suc, _+_, _*_, _/_, _%_, _^_, _≤_, _<_}
+use mathlib.Core.Path.{_≡_, refl, ap, ap₂, _∙_}
+use mathlib.Core.Bool.{Bool, true}
+use mathlib.Core.List.{List}
+use mathlib.Core.Logic.{_⊎_, inl, inr}
+use native.Mathlib.Decide.{ℕ-discrete, decLt}
+use native.Mathlib.Nat.{mod-lt, mul-assoc, eq-zero-or-pos}
+use native.Mathlib.Omega.{arith}
+use borrow.Author.Tests.{eq-eqb, ne-eqb}
+use lib.Arith.{mod-mul}
+use lib.IntN.{ℤ}
+use lib.ListN.{length, length-set, getD, set, replicate}
+use lib.Seq.{getD-set-same, getD-set-other, set-out}
+use Rattle.memory.specs.declared.Memory.{Memory}
+use Rattle.memory.specs.declared.layout.Layout.{Layout}
+use Rattle.memory.specs.declared.layout.MemoryLayout.{MemoryLayout}
+use Rattle.memory.specs.declared.layout.Region.{Region}
+use Rattle.memory.specs.declared.layout.Src.{Src}
+use Rattle.memory.specs.declared.layout.Src.the-variants.{CiRam}
+use Rattle.memory.specs.declared.mirroring.Mirroring.{Mirroring}
+use Rattle.memory.specs.declared.mirroring.Mirroring.the-variants.{Horizontal}
+use Rattle.memory.specs.declared.page.Page.{Page}
+use Rattle.memory.specs.Layout.{GoodLayout, withinLimits, layoutOf, firstPage, arenaPages, pagesIn, regionLen, regionOf}
+use Rattle.memory.specs.Memory.{EntryIn, TableIn, Ranged}
+use Rattle.memory.specs.Page.{unmapped, pageOf, offsetOf}
+use Rattle.memory.specs.Mirroring.{ciramBanks, nametablePage, mirrorPages, setMirroring}
+use Rattle.memory.specs.New.{unmappedMemory, newMemory}
+use Rattle.memory.specs.Windows.{withFlag, banksOf, modulo, windowBase, regionPage, eachPage, showPages, mapPages, unmapPages, setWritable, mapPrg, mapChr, unmapPrg, setPrgWritable}
+use Rattle.memory.proofs.Laws.Layout.{region-ends, pages-le, layout-good}
+use Rattle.memory.proofs.Laws.Page.{offset-page, bit-page}
+
+-- ---- entries
+
+-- an entry that was made of a page's start
+pub page-in : (n page : ℕ) (w : Bool) → page < n → n ≤ 2 ^ 20 → EntryIn n (pageOf (1024 * page) w)
+page-in n page w h small =
+    let e : offsetOf (pageOf (1024 * page) w) ≡ 1024 * page = offset-page (1024 * page) w (omega arith) in
+    record { pageStart = rw e (omega arith); inside = rw e (omega arith); clear = bit-page (1024 * page) w }
+
+pub unmapped-in : (n : ℕ) → 0 < n → EntryIn n unmapped
+unmapped-in n h = record { pageStart = refl; inside = omega arith; clear = refl }
+
+pub flag-in : (n : ℕ) (w : Bool) (p : Page) → EntryIn n p → EntryIn n (withFlag w p)
+flag-in n w p e =
+    let o : offsetOf (withFlag w p) ≡ offsetOf p = offset-page (offsetOf p) w (omega arith) in
+    record { pageStart = rw o (e .pageStart); inside = rw o (e .inside); clear = bit-page (offsetOf p) w }
+
+-- ---- tables
+
+pub length-each : (k : ℕ) (f : ℕ → Page → Page) (slot n : ℕ) (t : List Page) → length (eachPage k f slot n t) ≡ length t
+unfolding eachPage
+length-each k f slot zero t = refl
+length-each k f slot (suc n) t = simp (length-set, length-each k f slot n t)
+
+-- an entry outside the window stays
+pub each-other : (k : ℕ) (f : ℕ → Page → Page) (slot n : ℕ) (t : List Page) (j : ℕ)
+    → ((i : ℕ) → i < n → j ≡ (slot + i) % k → ⊥) → getD (eachPage k f slot n t) j unmapped ≡ getD t j unmapped
+unfolding eachPage
+each-other k f slot zero t j out = refl
+each-other k f slot (suc n) t j out =
+    getD-set-other (eachPage k f slot n t) ((slot + n) % k) j _ unmapped (out n (omega arith))
+    ∙ each-other k f slot n t j (λ i h. out i (omega arith))
+
+set-in : (n k : ℕ) (t : List Page) (i : ℕ) (p : Page) → EntryIn n p → TableIn n k t → TableIn n k (set t i p)
+set-in n k t i p q all j h = by (ℕ-discrete j i) (decLt i (length t))
+  where
+    by : Dec (j ≡ i) → Dec (i < length t) → EntryIn n (getD (set t i p) j unmapped)
+    by (yes e) (yes l) = rw (e, getD-set-same t i p unmapped l) q
+    by (yes e) (no l) = rw (set-out t i p (omega (arith, l))) (all j h)
+    by (no ne) d = rw (getD-set-other t i j p unmapped ne) (all j h)
+
+-- a step that keeps each entry in the arena keeps the table's
+pub each-in : (n k : ℕ) (f : ℕ → Page → Page) → 0 < k → ((i : ℕ) (p : Page) → EntryIn n p → EntryIn n (f i p))
+    → (slot m : ℕ) (t : List Page) → TableIn n k t → TableIn n k (eachPage k f slot m t)
+unfolding eachPage
+each-in n k f some good slot zero t all = all
+each-in n k f some good slot (suc m) t all =
+    let before = each-in n k f some good slot m t all in
+    set-in n k (eachPage k f slot m t) ((slot + m) % k) _ (good m _ (before ((slot + m) % k) (mod-lt (slot + m) some))) before
+
+-- ---- regions of whole pages
+
+-- a region that is y pages from page x on, inside n pages
+pub record Paged (n : ℕ) (r : Region) : Type 0 where
+  pub x : ℕ
+  pub y : ℕ
+  pub start : r .start ≡ 1024 * x
+  pub len : r .len ≡ 1024 * y
+  pub within : x + y ≤ n
+
+-- each region that the board maps is as long as its pages: `refl` there
+pub region-paged : (l : Layout) (used : ℕ) (s : Src) → regionLen l used s ≡ 1024 * pagesIn l s → Paged (arenaPages l) (regionOf l used s)
+unfolding regionOf
+region-paged l used s e = record { x = firstPage l s; y = pagesIn l s; start = refl; len = e; within = region-ends l s }
+
+-- a number of whole pages, modulo a number of whole pages
+whole-mod : (z y : ℕ) → 0 < y → 1024 * z % (1024 * y) ≡ 1024 * (z % y)
+whole-mod z y h =
+    let low : z * 1024 % 1024 ≡ 0 = omega arith in
+    let high : z * 1024 / 1024 ≡ z = omega arith in
+    let a : 1024 * z ≡ z * 1024 = omega arith in
+    let b : 1024 * y ≡ y * 1024 = omega arith in
+    rw (a, b) (mod-mul (z * 1024) {m = y} {c = 1024} h (omega arith) ∙ rw (low, high) (omega arith))
+
+-- a whole page of a region lies in the arena
+pub region-page-in : (n : ℕ) (r : Region) (z : ℕ) → 0 < n → n ≤ 2 ^ 20 → Paged n r → EntryIn n (regionPage r (1024 * z))
+unfolding regionPage
+region-page-in n r z some small p = by (eq-zero-or-pos (p .y))
+  where
+    by : (p .y ≡ 0) ⊎ (0 < p .y) → EntryIn n (regionPage r (1024 * z))
+    by (inl e) = rw (eq-eqb (r .len) 0 (omega (arith, p .len))) (unmapped-in n some)
+    by (inr h) =
+        let at : r .start + 1024 * z % r .len ≡ 1024 * (p .x + z % p .y) =
+        ap₂ _+_ (p .start) (ap (λ (len : ℕ). 1024 * z % len) (p .len) ∙ whole-mod z (p .y) h) ∙ omega arith in
+        rw (ne-eqb (r .len) 0 (λ e. absurd (omega (arith, p .len))), at)
+        (page-in n (p .x + z % p .y) (r .writable) (omega (arith, mod-lt z h, p .within)) small)
+
+-- ---- windows of whole pages and the nametables
+
+module _ (n k : ℕ) (r : Region) (some : 0 < n) (small : n ≤ 2 ^ 20) (p : Paged n r) (entries : 0 < k) where
+  pub map-in : (s : ℕ) (b : ℤ) (slot : ℕ) (t : List Page) → s % 1024 ≡ 0 → TableIn n k t → TableIn n k (mapPages k r s b slot t)
+  unfolding mapPages showPages windowBase
+  map-in s b slot t whole = each-in n k _ entries (λ i old e. go i) slot (s / 1024) t
+    where
+      go : (i : ℕ) → EntryIn n (regionPage r (windowBase (r .len) s b + 1024 * i))
+      go i =
+          let bank = modulo b (banksOf (r .len) s) in
+          let pages : s ≡ s / 1024 * 1024 = omega arith in
+          let same : bank * s + 1024 * i ≡ 1024 * (bank * (s / 1024) + i) =
+          ap (λ (x : ℕ). bank * x + 1024 * i) pages ∙ omega (arith, mul-assoc bank (s / 1024) 1024) in
+          rw same (region-page-in n r (bank * (s / 1024) + i) some small p)
+
+  pub mirror-in : (banks : List ℕ) (t : List Page) → 0 < p .y → TableIn n 16 t → TableIn n 16 (mirrorPages banks r t)
+  unfolding mirrorPages nametablePage
+  mirror-in banks t h = each-in n 16 _ (omega arith) (λ i old e. go (getD banks (i % 4) 0)) 8 8 t
+    where
+      go : (bank : ℕ) → EntryIn n (nametablePage r bank)
+      go bank =
+          let y : r .len / 1024 ≡ p .y = omega (arith, p .len) in
+          let at : r .start + 1024 * (bank % p .y) ≡ 1024 * (p .x + bank % p .y) = omega (arith, p .start) in
+          rw (y, at) (page-in n (p .x + bank % p .y) true (omega (arith, mod-lt bank h, p .within)) small)
+
+-- ---- the memory's steps
+
+arena-some : (l : Layout) → 0 < arenaPages l
+unfolding arenaPages
+arena-some l = omega arith
+
+arena-small : (l : Layout) → GoodLayout l → arenaPages l ≤ 2 ^ 20
+arena-small l g = omega (arith, pages-le l g)
+
+module _ (m : Memory) (q : Ranged m) where
+  pub ranged-map-prg : (addr s : ℕ) (b : ℤ) (src : Src) → s % 1024 ≡ 0
+      → regionLen (m .layout) (m .«battery_ext_len») src ≡ 1024 * pagesIn (m .layout) src → Ranged (mapPrg m addr s b src)
+  unfolding mapPrg
+  ranged-map-prg addr s b src whole e =
+      record {
+        sized = record { layout = q .sized .layout; used = q .sized .used };
+        prg =
+            map-in (arenaPages (m .layout)) 64 _ (arena-some (m .layout)) (arena-small (m .layout) (q .sized .layout))
+            (region-paged (m .layout) (m .«battery_ext_len») src e) (omega arith) s b (addr / 1024) (m .«prg_pages») whole (q .prg);
+        chr = q .chr;
+      }
+
+  pub ranged-map-chr : (addr s : ℕ) (b : ℤ) (src : Src) → s % 1024 ≡ 0
+      → regionLen (m .layout) (m .«battery_ext_len») src ≡ 1024 * pagesIn (m .layout) src → Ranged (mapChr m addr s b src)
+  unfolding mapChr
+  ranged-map-chr addr s b src whole e =
+      record {
+        sized = record { layout = q .sized .layout; used = q .sized .used };
+        prg = q .prg;
+        chr =
+            map-in (arenaPages (m .layout)) 16 _ (arena-some (m .layout)) (arena-small (m .layout) (q .sized .layout))
+            (region-paged (m .layout) (m .«battery_ext_len») src e) (omega arith) s b (addr / 1024) (m .«chr_pages») whole (q .chr);
+      }
+
+  pub ranged-unmap-prg : (addr s : ℕ) → Ranged (unmapPrg m addr s)
+  unfolding unmapPrg unmapPages
+  ranged-unmap-prg addr s =
+      record {
+        sized = record { layout = q .sized .layout; used = q .sized .used };
+        prg =
+            each-in (arenaPages (m .layout)) 64 _ (omega arith) (λ i old e. unmapped-in _ (arena-some (m .layout))) (addr / 1024) (s / 1024)
+            (m .«prg_pages») (q .prg);
+        chr = q .chr;
+      }
+
+  pub ranged-set-writable : (addr s : ℕ) (w : Bool) → Ranged (setPrgWritable m addr s w)
+  unfolding setPrgWritable setWritable
+  ranged-set-writable addr s w =
+      record {
+        sized = record { layout = q .sized .layout; used = q .sized .used };
+        prg =
+            each-in (arenaPages (m .layout)) 64 _ (omega arith) (λ i old e. flag-in _ w old e) (addr / 1024) (s / 1024) (m .«prg_pages»)
+            (q .prg);
+        chr = q .chr;
+      }
+
+  pub ranged-mirroring : (k : Mirroring) → Ranged (setMirroring m k)
+  unfolding setMirroring region-paged
+  ranged-mirroring k =
+      record {
+        sized = record { layout = q .sized .layout; used = q .sized .used };
+        prg = q .prg;
+        chr =
+            mirror-in (arenaPages (m .layout)) 16 _ (arena-some (m .layout)) (arena-small (m .layout) (q .sized .layout))
+            (region-paged (m .layout) (m .«battery_ext_len») CiRam refl) (omega arith) (ciramBanks k) (m .«chr_pages») (q .sized .layout .someCiram)
+            (q .chr);
+      }
+
+-- ---- the new memory
+
+blank-in : (n j k : ℕ) → 0 < n → TableIn n k (replicate j unmapped)
+blank-in n zero k some i h = unmapped-in n some
+blank-in n (suc j) k some zero h = unmapped-in n some
+blank-in n (suc j) k some (suc i) h = blank-in n j k some i (omega arith)
+
+pub ranged-new : (s : MemoryLayout) → withinLimits s ≡ true → Ranged (newMemory s)
+unfolding newMemory unmappedMemory
+ranged-new s e =
+    ranged-mirroring (unmappedMemory s)
+    (record {
+      sized = record { layout = layout-good s e; used = omega arith };
+      prg = blank-in (arenaPages (layoutOf s)) 64 64 (arena-some (layoutOf s));
+      chr = blank-in (arenaPages (layoutOf s)) 16 16 (arena-some (layoutOf s));
+    })
+    Horizontal
+
+-- ---- lengths of tables stay: each step changes one table, by `eachPage`
+
+pub record Lengths (m : Memory) : Type 0 where
+  pub prg : length (m .«prg_pages») ≡ 64
+  pub chr : length (m .«chr_pages») ≡ 16
+
+module _ (m : Memory) (q : Lengths m) where
+  pub lengths-map-prg : (addr s : ℕ) (b : ℤ) (src : Src) → Lengths (mapPrg m addr s b src)
+  unfolding mapPrg mapPages showPages
+  lengths-map-prg addr s b src = record { prg = length-each 64 _ (addr / 1024) (s / 1024) (m .«prg_pages») ∙ q .prg; chr = q .chr }
+
+  pub lengths-map-chr : (addr s : ℕ) (b : ℤ) (src : Src) → Lengths (mapChr m addr s b src)
+  unfolding mapChr mapPages showPages
+  lengths-map-chr addr s b src = record { prg = q .prg; chr = length-each 16 _ (addr / 1024) (s / 1024) (m .«chr_pages») ∙ q .chr }
+
+  pub lengths-unmap-prg : (addr s : ℕ) → Lengths (unmapPrg m addr s)
+  unfolding unmapPrg unmapPages
+  lengths-unmap-prg addr s = record { prg = length-each 64 _ (addr / 1024) (s / 1024) (m .«prg_pages») ∙ q .prg; chr = q .chr }
+
+  pub lengths-set-writable : (addr s : ℕ) (w : Bool) → Lengths (setPrgWritable m addr s w)
+  unfolding setPrgWritable setWritable
+  lengths-set-writable addr s w = record { prg = length-each 64 _ (addr / 1024) (s / 1024) (m .«prg_pages») ∙ q .prg; chr = q .chr }
+
+  pub lengths-mirroring : (k : Mirroring) → Lengths (setMirroring m k)
+  unfolding setMirroring mirrorPages
+  lengths-mirroring k = record { prg = q .prg; chr = length-each 16 _ 8 8 (m .«chr_pages») ∙ q .chr }
+
+pub lengths-new : (s : MemoryLayout) → Lengths (newMemory s)
+unfolding newMemory unmappedMemory
+lengths-new s = lengths-mirroring (unmappedMemory s) (record { prg = refl; chr = refl }) Horizontal

@@ -1,0 +1,36 @@
+-- By the flag.
+use Rattle.memory.specs.Bytes.{storedAt}
+use borrow.Author.Needs.{needs}
+use Rattle.memory.proofs.bytes.page_write.Statement.{statement}
+use Rattle.memory.proofs.bytes.page_write.Tie as tie
+
+is-writable-requires : tie.Need-is-writable-requires
+is-writable-requires c κs = search needs
+
+shown-at-requires : tie.Need-shown-at-requires
+shown-at-requires c κs = search needs
+
+slice-write-arena : tie.Need-slice-write-arena
+slice-write-arena c = search needs
+
+same-length : tie.Need-same-length
+same-length c = search needs
+
+returns : tie.Need-returns
+unfolding storedAt
+returns c = rw (← c .before .before .is-writable .ensures, c .before .if1 .taken, c .shown-at .ensures .0)
+
+returns-2 : tie.Need-returns-2
+unfolding storedAt
+returns-2 c = rw (← c .before .is-writable .ensures, c .if1 .left)
+
+pub page-write-spec : {M : Type 1} → statement M
+page-write-spec =
+    tie.close
+    (tie.spec
+    is-writable-requires
+    shown-at-requires
+    slice-write-arena
+    same-length
+    returns
+    returns-2)

@@ -1,0 +1,27 @@
+-- A bank modulo the CIRAM pages is one of them.
+use Prim.Native.Nat.{_/_}
+use native.Mathlib.Omega.{arith}
+use native.Mathlib.Nat.{mod-lt}
+use Rattle.memory.specs.Mirroring.{nametablePage}
+use borrow.Author.Needs.{needs}
+use Rattle.memory.proofs.mirroring.nametable_page.Statement.{statement}
+use Rattle.memory.proofs.mirroring.nametable_page.Tie as tie
+
+rem-new : tie.Need-rem-new
+rem-new c = search needs
+
+mul-new : tie.Need-mul-new
+mul-new c = record { fits = omega (arith, mod-lt (c .before .args .bank) {m = c .before .args .ciram .len / 1024} (omega arith)) }
+
+add-new : tie.Need-add-new
+add-new c = record { fits = omega (arith, mod-lt (c .before .before .args .bank) {m = c .before .before .args .ciram .len / 1024} (omega arith)) }
+
+new-requires : tie.Need-new-requires
+new-requires c κs = search needs
+
+returns : tie.Need-returns
+unfolding nametablePage
+returns c = rw (c .new .ensures)
+
+pub nametable-page-spec : {M : Type 1} → statement M
+nametable-page-spec = tie.close (tie.spec rem-new mul-new add-new new-requires returns)

@@ -1,0 +1,20 @@
+-- By the test whether there is more than one whole bank.
+use Rattle.memory.specs.Windows.{banksOf}
+use native.Mathlib.Omega.{arith}
+use borrow.Author.Needs.{needs}
+use Rattle.memory.proofs.windows.banks.Statement.{statement}
+use Rattle.memory.proofs.windows.banks.Tie as tie
+
+div-whole : tie.Need-div-whole
+div-whole c = search needs
+
+returns : tie.Need-returns
+unfolding banksOf
+returns c = (omega arith, omega arith)
+
+returns-2 : tie.Need-returns-2
+unfolding banksOf
+returns-2 c = (omega arith, omega arith)
+
+pub banks-spec : {M : Type 1} → statement M
+banks-spec = tie.close (tie.spec div-whole returns returns-2)

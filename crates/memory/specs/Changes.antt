@@ -1,0 +1,41 @@
+-- 01 "Load, detection and banking": "the PRG and CHR pages whose entries changed, how many changed, and the lowest changed page of each table".
+use Prim.Native.Nat.{ℕ, suc, _+_, _*_}
+use mathlib.Core.Bool.{Bool}
+use mathlib.Core.List.{List, [], _∷_}
+use lib.Dec.{eqb}
+use lib.ListN.{length}
+use Rattle.memory.specs.declared.changes.PrgChanges.{PrgChanges}
+use Rattle.memory.specs.declared.changes.ChrChanges.{ChrChanges}
+use Rattle.memory.specs.declared.page.Page.{Page}
+use Rattle.memory.specs.Page.{pick}
+
+-- entries are compared as whole numbers: a change of the flag alone is a change
+abbrev pub same : Page → Page → Bool
+same a b = eqb (a .0) (b .0)
+
+abbrev pub differ : Page → Page → ℕ
+differ a b = pick (same a b) 0 1
+
+-- bit i is set where entry i differs
+unfoldable pub changed : List Page → List Page → ℕ
+changed [] new = 0
+changed (a ∷ old) [] = 0
+changed (a ∷ old) (b ∷ new) = changed old new * 2 + differ a b
+
+-- how many entries differ
+unfoldable pub countChanged : List Page → List Page → ℕ
+countChanged [] new = 0
+countChanged (a ∷ old) [] = 0
+countChanged (a ∷ old) (b ∷ new) = countChanged old new + differ a b
+
+-- the first entry that differs, or the table's length where none does: "(64 or 16 for none)"
+unfoldable pub lowestChanged : List Page → List Page → ℕ
+lowestChanged [] new = 0
+lowestChanged (a ∷ old) [] = suc (length old)
+lowestChanged (a ∷ old) (b ∷ new) = pick (same a b) (suc (lowestChanged old new)) 0
+
+unfoldable pub prgChanges : List Page → List Page → PrgChanges
+prgChanges old new = record { mask = changed old new; count = countChanged old new; lowest = lowestChanged old new }
+
+unfoldable pub chrChanges : List Page → List Page → ChrChanges
+chrChanges old new = record { mask = changed old new; count = countChanged old new; lowest = lowestChanged old new }

@@ -1,0 +1,4 @@
+pub mod Floats
+pub mod Range
+pub mod Wiki
+pub mod Cases

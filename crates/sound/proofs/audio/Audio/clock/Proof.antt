@@ -1,0 +1,60 @@
+-- A clock while disabled, at an update and between two updates: one answer each.
+use Prim.Native.Nat.{ℕ}
+use mathlib.Core.Path.{_≡_, sym, _∙_}
+use borrow.Author.Needs.{needs}
+use Rattle.sound.specs.declared.audio.Audio.{Audio}
+use Rattle.sound.specs.Audio.{withCounter, withChannel}
+use Rattle.sound.specs.Channel.{channelCount}
+use Rattle.sound.specs.Clock.{nextChannel, updateChannel, updated}
+use Rattle.sound.proofs.audio.Typed.{typed}
+use Rattle.sound.proofs.Range.{with-range, clock-range}
+use Rattle.sound.proofs.run.Laws.{clock-off, clock-due, clock-quiet}
+use Rattle.sound.proofs.audio.Audio.clock.Statement.{statement}
+use Rattle.sound.proofs.audio.Audio.clock.Tie as tie
+
+returns : tie.Need-returns
+returns c = (sym (clock-off _ (c .if1 .taken)), c .before .pre)
+
+add-u : tie.Need-add-u
+add-u c = search needs
+
+update-channel-requires : tie.Need-update-channel-requires
+update-channel-requires c κs = search needs
+
+channel-count-requires : tie.Need-channel-count-requires
+channel-count-requires c κs = search needs
+
+next-channel-requires : tie.Need-next-channel-requires
+next-channel-requires c κs = search needs
+
+-- the update and the move, as the code puts them together
+moved : (a b : Audio) (k c : ℕ) → b ≡ updateChannel (withCounter a 0) → c ≡ channelCount (b .ram) → k ≡ nextChannel (b .«current_channel») c
+    → withChannel b k ≡ withCounter (updated a) 0
+unfolding updated updateChannel
+moved a b k c e f g = rw (g, f, e)
+
+returns-2 : tie.Need-returns-2
+returns-2 c =
+    let s = c .before .before .before .before .before .before .before .before in
+    let a = s .args .self in
+    let d = c .before .before .before .before .before .before .before .if1 .left in
+    let e = c .before .before .before .before .before .if2 .taken in
+    let m = moved a _ _ _ (c .before .before .before .before .update-channel .ensures .0) (c .before .channel-count .ensures .0) (c .next-channel .ensures .0) in
+    with-range _ _ (m ∙ sym (clock-due a d e)) (clock-range a (typed _ _ (s .good .0)) (s .pre))
+
+returns-3 : tie.Need-returns-3
+returns-3 c =
+    let s = c .before .before .before in
+    with-range _ _ (sym (clock-quiet (s .args .self) (c .before .before .if1 .left) (c .if2 .left))) (clock-range (s .args .self) (typed _ _ (s .good .0)) (s .pre))
+
+pub clock-spec : {M : Type 1} → statement M
+clock-spec =
+    tie.close
+    (tie.spec
+    returns
+    add-u
+    update-channel-requires
+    channel-count-requires
+    next-channel-requires
+    returns-2
+    returns-3)

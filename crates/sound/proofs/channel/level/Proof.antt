@@ -1,0 +1,26 @@
+-- The product is at most 255 times 15.
+use Prim.Native.Nat.{ℕ, _*_, _≤_}
+use mathlib.Core.Path.{ap}
+use native.Mathlib.Nat.{mul-le-mul}
+use native.Mathlib.Omega.{arith}
+use borrow.Author.Needs.{needs}
+use Rattle.sound.proofs.channel.level.Statement.{statement}
+use Rattle.sound.proofs.channel.level.Tie as tie
+
+small : (c : tie.After-wrapping-sub-u8) → c .wrapping-sub-u8 .result * c .before .args .volume ≤ 3825
+small c = mul-le-mul {n₂ = 255} {m₂ = 15} (omega arith) (omega arith)
+
+wrapping-sub-u8-requires : tie.Need-wrapping-sub-u8-requires
+wrapping-sub-u8-requires c κs = search needs
+
+cast-result : tie.Need-cast-result
+cast-result c = search needs
+
+mul-result : tie.Need-mul-result
+mul-result c = let h = small c in omega arith
+
+returns : tie.Need-returns
+returns c = (ap (λ (x : ℕ). x * c .before .args .volume) (omega arith), small c)
+
+pub level-spec : {M : Type 1} → statement M
+level-spec = tie.close (tie.spec wrapping-sub-u8-requires cast-result mul-result returns)

@@ -1,0 +1,23 @@
+-- The two answers are told apart by the address's parity.
+use borrow.Author.Needs.{needs}
+use borrow.Author.Tests.{eq-eqb, ne-eqb}
+use Rattle.sound.specs.Channel.{nibbleAt}
+use Rattle.sound.proofs.channel.nibble.Statement.{statement}
+use Rattle.sound.proofs.channel.nibble.Tie as tie
+
+element-copy-out-result : tie.Need-element-copy-out-result
+element-copy-out-result c = search needs
+
+element-copy-out-result-2 : tie.Need-element-copy-out-result-2
+element-copy-out-result-2 c = search needs
+
+returns : tie.Need-returns
+unfolding nibbleAt
+returns c = simp (eq-eqb _ _ (c .before .if1 .taken))
+
+returns-2 : tie.Need-returns-2
+unfolding nibbleAt
+returns-2 c = simp (ne-eqb _ _ (c .before .if1 .left))
+
+pub nibble-spec : {M : Type 1} → statement M
+nibble-spec = tie.close (tie.spec element-copy-out-result element-copy-out-result-2 returns returns-2)

@@ -1,0 +1,24 @@
+-- The two answers are told apart by the test of the definition.
+use native.Mathlib.Omega.{arith}
+use borrow.Author.Needs.{needs}
+use borrow.Author.Tests.{lt-ltb, le-ltb}
+use Rattle.sound.specs.Clock.{nextChannel}
+use Rattle.sound.proofs.clock.next_channel.Statement.{statement}
+use Rattle.sound.proofs.clock.next_channel.Tie as tie
+
+add-if1 : tie.Need-add-if1
+add-if1 c = search needs
+
+sub-result : tie.Need-sub-result
+sub-result c = search needs
+
+returns : tie.Need-returns
+unfolding nextChannel
+returns c = (simp (lt-ltb _ _ (c .if1 .taken)), omega arith)
+
+returns-2 : tie.Need-returns-2
+unfolding nextChannel
+returns-2 c = (simp (le-ltb _ _ (c .if1 .left)), omega arith)
+
+pub next-channel-spec : {M : Type 1} → statement M
+next-channel-spec = tie.close (tie.spec add-if1 sub-result returns returns-2)

@@ -1,0 +1,17 @@
+-- The two answers are told apart by the test of the definition.
+use borrow.Author.Needs.{needs}
+use borrow.Author.Tests.{le-leb, lt-leb}
+use Rattle.sound.proofs.mix.resum.Statement.{statement}
+use Rattle.sound.proofs.mix.resum.Tie as tie
+
+add-if1 : tie.Need-add-if1
+add-if1 c = search needs
+
+returns : tie.Need-returns
+returns c = rw (le-leb _ _ (c .if1 .taken))
+
+returns-2 : tie.Need-returns-2
+returns-2 c = rw (lt-leb _ _ (c .if1 .left))
+
+pub resum-spec : {M : Type 1} → statement M
+resum-spec = tie.close (tie.spec add-if1 returns returns-2)

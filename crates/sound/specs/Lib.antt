@@ -1,0 +1,9 @@
+pub mod Audio
+pub mod Registers
+pub mod Channel
+pub mod Mix
+pub mod Clock
+pub mod Run
+pub mod Range
+pub mod Wiki
+pub mod Cases
