@@ -1,0 +1,2 @@
+-- The page tables by the registers.
+pub mod Banking

@@ -1,0 +1,29 @@
+-- `chr_read` meets its contract: refused, and accepted.
+use mathlib.Core.Path.{sym, _∙_}
+use borrow.Author.Needs.{needs}
+use borrow.Author.Tests.{ne-eqb}
+use Rattle.namco163.proofs.refusals.Laws.{arena-good, backed}
+use Rattle.namco163.specs.Calls.{chrRead}
+use mathlib.Core.Path.{sym, _∙_}
+use borrow.Author.Tests.{ne-eqb}
+use Rattle.namco163.proofs.refusals.Laws.{arena-good, backed}
+use Rattle.namco163.specs.Calls.{chrRead}
+use Rattle.namco163.proofs.calls.chr_read.Statement.{statement}
+use Rattle.namco163.proofs.calls.chr_read.Tie as tie
+
+arena-refusal-requires : tie.Need-arena-refusal-requires
+arena-refusal-requires c κs = search needs
+
+returns : tie.Need-returns
+unfolding chrRead
+returns c = rw (← c .before .arena-refusal .ensures, ne-eqb _ _ (c .if1 .taken))
+
+chr-peek-requires : tie.Need-chr-peek-requires
+chr-peek-requires c κs = backed _ _ (arena-good _ _ (sym (c .before .before .arena-refusal .ensures) ∙ c .before .if1 .left))
+
+returns-2 : tie.Need-returns-2
+unfolding chrRead
+returns-2 c = rw (sym (c .before .before .before .arena-refusal .ensures) ∙ c .before .before .if1 .left, c .chr-peek .ensures)
+
+pub chr-read-spec : {M : Type 1} → statement M
+chr-read-spec = tie.close (tie.spec arena-refusal-requires returns chr-peek-requires returns-2)

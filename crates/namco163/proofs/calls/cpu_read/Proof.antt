@@ -1,0 +1,35 @@
+-- `cpu_read` meets its contract: refused, and accepted.
+use mathlib.Core.Path.{sym, _∙_}
+use borrow.Author.Needs.{needs}
+use borrow.Author.Tests.{ne-eqb}
+use Rattle.namco163.proofs.refusals.Laws.{cpu-good, backed, port-good}
+use Rattle.namco163.specs.Calls.{cpuRead}
+use lib.ListN.{length}
+use mathlib.Core.Path.{sym, _∙_}
+use borrow.Author.Tests.{ne-eqb}
+use Rattle.namco163.proofs.refusals.Laws.{cpu-good, backed, port-good}
+use Rattle.namco163.specs.Calls.{cpuRead}
+use Rattle.namco163.proofs.calls.cpu_read.Statement.{statement}
+use Rattle.namco163.proofs.calls.cpu_read.Tie as tie
+
+cpu-refusal-requires : tie.Need-cpu-refusal-requires
+cpu-refusal-requires c κs = search needs
+
+returns : tie.Need-returns
+unfolding cpuRead
+returns c = rw (← c .before .cpu-refusal .ensures, ne-eqb _ _ (c .if1 .taken))
+
+cpu-byte-requires : tie.Need-cpu-byte-requires
+cpu-byte-requires c κs = let g = (let a = c .before .before .before .args in cpu-good (a .s) (length (a .arena .now)) (a .addr) (sym (c .before .cpu-refusal .ensures) ∙ c .if1 .left) .0) in (port-good _ (g .good), backed _ _ g)
+
+after-read-requires : tie.Need-after-read-requires
+after-read-requires c κs = port-good _ ((let a = c .before .before .before .before .before .args in cpu-good (a .s) (length (a .arena .now)) (a .addr) (sym (c .before .before .before .cpu-refusal .ensures) ∙ c .before .before .if1 .left) .0) .good)
+
+returns-2 : tie.Need-returns-2
+unfolding cpuRead
+returns-2 c = rw (sym (c .before .before .before .before .cpu-refusal .ensures) ∙ c .before .before .before .if1 .left, c .before .before .cpu-byte .ensures, c .after-read .ensures)
+
+pub cpu-read-spec : {M : Type 1} → statement M
+cpu-read-spec =
+    tie.close
+    (tie.spec cpu-refusal-requires returns cpu-byte-requires after-read-requires returns-2)

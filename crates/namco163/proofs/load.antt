@@ -1,0 +1,2 @@
+-- The laws of specs/Load.antt, and the proofs of src/load.rt.
+pub mod Laws

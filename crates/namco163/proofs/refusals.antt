@@ -1,0 +1,2 @@
+-- The laws of specs/Refusals.antt, and the proofs of src/refusals.rt.
+pub mod Laws

@@ -1,0 +1,113 @@
+-- The public calls but for load and the run: what each answers and alters, refused calls too. A refused call's other answer fields are 0, and its state is
+-- the one it was given.
+use Prim.Native.Nat.{ℕ}
+use mathlib.Core.Bool.{cond}
+use mathlib.Core.List.{List}
+use lib.Dec.{eqb}
+use lib.ListN.{length}
+use Rattle.memory.specs.declared.Memory.{Memory}
+use Rattle.memory.specs.declared.layout.Src.{Src}
+use Rattle.memory.specs.Bytes.{prgPeek, prgWrite, chrPeek, chrWrite, regionPeek, regionWrite, fillRegion, sramOf}
+use Rattle.memory.specs.Changes.{prgChanges, chrChanges}
+use Rattle.chip.specs.declared.namco163.Namco163.{Namco163}
+use Rattle.chip.specs.Reads.{served, byteOr, afterRead}
+use Rattle.chip.specs.Writes.{writeChip, remaps}
+use Rattle.banking.specs.Banking.{updateBanks}
+use Rattle.state.specs.declared.State.{State}
+use Rattle.namco163.specs.declared.calls.ByteRead.{ByteRead}
+use Rattle.namco163.specs.declared.calls.Changed.{Changed}
+use Rattle.namco163.specs.declared.calls.Written.{Written}
+use Rattle.namco163.specs.declared.calls.Peeked.{Peeked}
+use Rattle.namco163.specs.declared.calls.BatterySpan.{BatterySpan}
+use Rattle.namco163.specs.Refusals.{firstOf, stateChecks, arenaChecks, cpuChecks, fillChecks}
+
+-- one thing where the number says accepted, another where it is a refusal's
+abbrev pub ifAccepted {ℓ} : {A : Type ℓ} → ℕ → A → A → A
+ifAccepted q a r = cond (eqb q 0) a r
+
+abbrev pub withChip : State → Namco163 → State
+withChip s n = record { chip = n; memory = s .memory }
+
+-- ---- CPU read and peek: "a CPU read is `prg_read`, else `Memory::prg_peek`"
+
+abbrev pub cpuByte : State → List ℕ → ℕ → ℕ
+cpuByte s arena addr = byteOr (prgPeek arena (s .memory) addr) (served (s .chip) addr)
+
+unfoldable pub cpuRead : State → List ℕ → ℕ → ByteRead
+cpuRead s arena addr =
+    let q = firstOf (cpuChecks s (length arena) addr) in
+    ifAccepted q
+    (record { refusal = 0; byte = cpuByte s arena addr; state = withChip s (afterRead (s .chip) addr) })
+    (record { refusal = q; byte = 0; state = s })
+
+unfoldable pub cpuPeek : State → List ℕ → ℕ → Peeked
+cpuPeek s arena addr =
+    let q = firstOf (cpuChecks s (length arena) addr) in
+    ifAccepted q (record { refusal = 0; byte = cpuByte s arena addr }) (record { refusal = q; byte = 0 })
+
+-- ---- CPU write: "a CPU write is `Memory::prg_write`, then `write_register`"
+
+-- the state after `write_register`
+unfoldable pub writeRegister : State → ℕ → ℕ → State
+writeRegister s addr v =
+    let chip = writeChip (s .chip) addr v in
+    record {
+      chip = chip;
+      memory = cond (remaps (s .chip .board) (chip .board) addr) (updateBanks chip (s .memory)) (s .memory);
+    }
+
+-- "A CPU write answers the PRG and CHR pages whose entries changed, how many changed, and the lowest changed page of each table"
+unfoldable pub changes : Memory → Memory → Changed
+changes old new =
+    record { prg = prgChanges (old .«prg_pages») (new .«prg_pages»); chr = chrChanges (old .«chr_pages») (new .«chr_pages») }
+
+abbrev pub noChanges : Changed
+noChanges = record { prg = record { mask = 0; count = 0; lowest = 0 }; chr = record { mask = 0; count = 0; lowest = 0 } }
+
+abbrev pub refusedWrite : State → ℕ → Written
+refusedWrite s q = record { refusal = q; state = s; changed = noChanges }
+
+unfoldable pub cpuWrite : State → List ℕ → ℕ → ℕ → Written
+cpuWrite s arena addr v =
+    let q = firstOf (cpuChecks s (length arena) addr) in
+    let t = writeRegister s addr v in
+    ifAccepted q
+    (record { refusal = 0; state = t; changed = changes (s .memory) (t .memory) })
+    (refusedWrite s q)
+
+-- the store comes first, by the entries before the write
+unfoldable pub cpuWriteArena : State → List ℕ → ℕ → ℕ → List ℕ
+cpuWriteArena s arena addr v = ifAccepted (firstOf (cpuChecks s (length arena) addr)) (prgWrite arena (s .memory) addr v) arena
+
+-- ---- CHR read and write
+
+unfoldable pub chrRead : State → List ℕ → ℕ → Peeked
+chrRead s arena addr =
+    let q = firstOf (arenaChecks s (length arena)) in
+    ifAccepted q (record { refusal = 0; byte = chrPeek arena (s .memory) addr }) (record { refusal = q; byte = 0 })
+
+-- the refusal number is the whole answer
+unfoldable pub chrWriteArena : State → List ℕ → ℕ → ℕ → List ℕ
+chrWriteArena s arena addr v = ifAccepted (firstOf (arenaChecks s (length arena))) (chrWrite arena (s .memory) addr v) arena
+
+-- ---- regions
+
+unfoldable pub fillArena : State → List ℕ → Src → List ℕ → List ℕ
+fillArena s arena src bytes =
+    ifAccepted (firstOf (fillChecks s (length arena) src (length bytes))) (fillRegion arena (s .memory) src bytes) arena
+
+unfoldable pub regionRead : State → List ℕ → Src → ℕ → Peeked
+regionRead s arena src offset =
+    let q = firstOf (arenaChecks s (length arena)) in
+    ifAccepted q (record { refusal = 0; byte = regionPeek arena (s .memory) src offset }) (record { refusal = q; byte = 0 })
+
+unfoldable pub regionWriteArena : State → List ℕ → Src → ℕ → ℕ → List ℕ
+regionWriteArena s arena src offset v =
+    ifAccepted (firstOf (arenaChecks s (length arena))) (regionWrite arena (s .memory) src offset v) arena
+
+unfoldable pub sramAnswer : State → BatterySpan
+sramAnswer s =
+    let q = firstOf (stateChecks s) in
+    ifAccepted q
+    (record { refusal = 0; start = sramOf (s .memory) .start; len = sramOf (s .memory) .len })
+    (record { refusal = q; start = 0; len = 0 })

@@ -1,0 +1,272 @@
+// The public calls on bytes and registers: CPU read, peek and write, CHR read and write, and regions.
+use crate::refusals::arena_refusal;
+use crate::refusals::cpu_refusal;
+use crate::refusals::fill_refusal;
+use crate::refusals::state_refusal;
+use banking::update_banks;
+use chip::reads::Served;
+use chip::writes::remaps;
+use memory::Memory;
+use memory::changes::ChrChanges;
+use memory::changes::PrgChanges;
+use memory::changes::chr_changes;
+use memory::changes::prg_changes;
+use memory::layout::Src;
+use state::State;
+ghost use mathlib.Core.Path.{_≡_};
+ghost use Prim.Native.Nat.{_<_};
+ghost use lib.ListN.{length};
+ghost use Rattle.memory.specs.Bytes.{Backed};
+ghost use Rattle.memory.specs.Memory.{Sized};
+ghost use Rattle.namco163.specs.Refusals.{firstOf, arenaChecks, fillChecks};
+ghost use Rattle.namco163.specs.Calls.{cpuByte, cpuRead, cpuPeek, writeRegister, changes, refusedWrite, cpuWrite, cpuWriteArena, chrRead, chrWriteArena, fillArena, regionRead, regionWriteArena, sramAnswer};
+
+// A read's answer. In each answer `refusal` is 0 for accepted.
+pub struct ByteRead {
+    pub refusal: u8,
+    pub byte: u8,
+    pub state: State,
+}
+
+// The answer of a read that changes nothing.
+pub struct Peeked {
+    pub refusal: u8,
+    pub byte: u8,
+}
+
+// Which entries of the two page tables a write changed.
+pub struct Changed {
+    pub prg: PrgChanges,
+    pub chr: ChrChanges,
+}
+
+pub struct Written {
+    pub refusal: u8,
+    pub state: State,
+    pub changed: Changed,
+}
+
+// Where the battery's bytes lie in the arena.
+pub struct BatterySpan {
+    pub refusal: u8,
+    pub start: usize,
+    pub len: usize,
+}
+
+// The byte at a CPU address: the board's own, or else the page's.
+fn cpu_byte(s: State, arena: &[u8], addr: u16) -> u8
+    requires { ⌜ (s .chip .audio .addr < 128) × Backed (s .memory) (now arena) ⌝ }
+    ensures { λ r. ⌜ r ≡ cpuByte s (now (arena .entry)) addr ⌝ }
+{
+    let chip = s.chip;
+    let served = chip.prg_peek(addr);
+    let m = s.memory;
+    match served {
+        Served::Byte(b) => b,
+        Served::Nothing => m.prg_peek(arena, addr),
+    }
+}
+
+pub fn cpu_read(s: State, arena: &[u8], addr: u16) -> ByteRead
+    ensures { λ r. ⌜ r ≡ cpuRead s (now (arena .entry)) addr ⌝ }
+{
+    let q = cpu_refusal(s, arena.len(), addr);
+    if q != 0 {
+        return ByteRead {
+            refusal: q,
+            byte: 0,
+            state: s,
+        };
+    }
+    let byte = cpu_byte(s, arena, addr);
+    let chip = s.chip;
+    let next = chip.after_read(addr);
+    let mut after = s;
+    after.chip = next;
+    ByteRead {
+        refusal: 0,
+        byte: byte,
+        state: after,
+    }
+}
+
+pub fn cpu_peek(s: State, arena: &[u8], addr: u16) -> Peeked
+    ensures { λ r. ⌜ r ≡ cpuPeek s (now (arena .entry)) addr ⌝ }
+{
+    let q = cpu_refusal(s, arena.len(), addr);
+    if q != 0 {
+        return Peeked {
+            refusal: q,
+            byte: 0,
+        };
+    }
+    let byte = cpu_byte(s, arena, addr);
+    Peeked {
+        refusal: 0,
+        byte: byte,
+    }
+}
+
+// The registers after a write, and the tables where they are mapped anew.
+fn write_register(s: State, addr: u16, val: u8) -> State
+    requires { ⌜ (s .chip .audio .addr < 128) × Sized (s .memory) ⌝ }
+    ensures { λ r. ⌜ r ≡ writeRegister s addr val ⌝ }
+{
+    let old = s.chip;
+    let chip = old.write_register(addr, val);
+    let board = chip.board;
+    let before = old.board;
+    let mut after = s;
+    after.chip = chip;
+    if remaps(before, board, addr) {
+        let m = s.memory;
+        let mapped = update_banks(chip, m);
+        after.memory = mapped;
+    }
+    after
+}
+
+fn changes_between(old: Memory, new: Memory) -> Changed
+    ensures { λ r. ⌜ r ≡ changes old new ⌝ }
+{
+    let old_prg = old.prg_pages;
+    let new_prg = new.prg_pages;
+    let old_chr = old.chr_pages;
+    let new_chr = new.chr_pages;
+    let prg = prg_changes(old_prg, new_prg);
+    let chr = chr_changes(old_chr, new_chr);
+    Changed { prg: prg, chr: chr }
+}
+
+fn refused_write(s: State, q: u8) -> Written
+    ensures { λ r. ⌜ r ≡ refusedWrite s q ⌝ }
+{
+    let prg = PrgChanges {
+        mask: 0,
+        count: 0,
+        lowest: 0,
+    };
+    let chr = ChrChanges {
+        mask: 0,
+        count: 0,
+        lowest: 0,
+    };
+    let changed = Changed { prg: prg, chr: chr };
+    Written {
+        refusal: q,
+        state: s,
+        changed: changed,
+    }
+}
+
+pub fn cpu_write(s: State, arena: &mut [u8], addr: u16, val: u8) -> Written
+    ensures { λ r. ⌜ (r ≡ cpuWrite s (now (arena .entry)) addr val) × (now (arena .exit) ≡ cpuWriteArena s (now (arena .entry)) addr val) ⌝ }
+{
+    let q = cpu_refusal(s, arena.len(), addr);
+    if q != 0 {
+        return refused_write(s, q);
+    }
+    let m = s.memory;
+    m.prg_write(arena, addr, val);
+    let after = write_register(s, addr, val);
+    let mapped = after.memory;
+    let changed = changes_between(m, mapped);
+    Written {
+        refusal: 0,
+        state: after,
+        changed: changed,
+    }
+}
+
+pub fn chr_read(s: State, arena: &[u8], addr: u16) -> Peeked
+    ensures { λ r. ⌜ r ≡ chrRead s (now (arena .entry)) addr ⌝ }
+{
+    let q = arena_refusal(s, arena.len());
+    if q != 0 {
+        return Peeked {
+            refusal: q,
+            byte: 0,
+        };
+    }
+    let m = s.memory;
+    Peeked {
+        refusal: 0,
+        byte: m.chr_peek(arena, addr),
+    }
+}
+
+// Answers the refusal number.
+pub fn chr_write(s: State, arena: &mut [u8], addr: u16, val: u8) -> u8
+    ensures { λ r. ⌜ (r ≡ firstOf (arenaChecks s (length (now (arena .entry))))) × (now (arena .exit) ≡ chrWriteArena s (now (arena .entry)) addr val) ⌝ }
+{
+    let q = arena_refusal(s, arena.len());
+    if q != 0 {
+        return q;
+    }
+    let m = s.memory;
+    m.chr_write(arena, addr, val);
+    0
+}
+
+// Copies bytes to a region's start. Answers the refusal number.
+pub fn fill(s: State, arena: &mut [u8], src: Src, bytes: &[u8]) -> u8
+    ensures { λ r. ⌜ (r ≡ firstOf (fillChecks s (length (now (arena .entry))) src (length (now (bytes .entry))))) × (now (arena .exit) ≡ fillArena s (now (arena .entry)) src (now (bytes .entry))) ⌝ }
+{
+    let q = fill_refusal(s, arena.len(), src, bytes.len());
+    if q != 0 {
+        return q;
+    }
+    let m = s.memory;
+    m.fill(arena, src, bytes);
+    0
+}
+
+pub fn region_peek(s: State, arena: &[u8], src: Src, offset: u64) -> Peeked
+    ensures { λ r. ⌜ r ≡ regionRead s (now (arena .entry)) src offset ⌝ }
+{
+    let q = arena_refusal(s, arena.len());
+    if q != 0 {
+        return Peeked {
+            refusal: q,
+            byte: 0,
+        };
+    }
+    let m = s.memory;
+    Peeked {
+        refusal: 0,
+        byte: m.region_peek(arena, src, offset),
+    }
+}
+
+// Answers the refusal number.
+pub fn region_write(s: State, arena: &mut [u8], src: Src, offset: u64, val: u8) -> u8
+    ensures { λ r. ⌜ (r ≡ firstOf (arenaChecks s (length (now (arena .entry))))) × (now (arena .exit) ≡ regionWriteArena s (now (arena .entry)) src offset val) ⌝ }
+{
+    let q = arena_refusal(s, arena.len());
+    if q != 0 {
+        return q;
+    }
+    let m = s.memory;
+    m.region_write(arena, src, offset, val);
+    0
+}
+
+pub fn sram(s: State) -> BatterySpan
+    ensures { λ r. ⌜ r ≡ sramAnswer s ⌝ }
+{
+    let q = state_refusal(s);
+    if q != 0 {
+        return BatterySpan {
+            refusal: q,
+            start: 0,
+            len: 0,
+        };
+    }
+    let m = s.memory;
+    let span = m.sram();
+    BatterySpan {
+        refusal: 0,
+        start: span.start,
+        len: span.len,
+    }
+}

@@ -1,0 +1,34 @@
+-- `layout_ok` meets its contract, test by test.
+use borrow.Author.Tests.{le-leb, lt-leb}
+use Rattle.state.specs.Tables.{layoutOk}
+use borrow.Author.Tests.{le-leb, lt-leb}
+use Rattle.state.specs.Tables.{layoutOk}
+use Rattle.state.proofs.tables.layout_ok.Statement.{statement}
+use Rattle.state.proofs.tables.layout_ok.Tie as tie
+
+returns : tie.Need-returns
+unfolding layoutOk
+returns c = rw (lt-leb _ _ (c .if1 .taken))
+
+returns-2 : tie.Need-returns-2
+unfolding layoutOk
+returns-2 c = rw (le-leb _ _ (c .before .before .if1 .left), lt-leb _ _ (c .if2 .taken))
+
+returns-3 : tie.Need-returns-3
+unfolding layoutOk
+returns-3 c = rw (le-leb _ _ (c .before .before .before .before .if1 .left), le-leb _ _ (c .before .before .if2 .left), lt-leb _ _ (c .if3 .taken))
+
+returns-4 : tie.Need-returns-4
+unfolding layoutOk
+returns-4 c = rw (le-leb _ _ (c .before .before .before .before .before .before .if1 .left), le-leb _ _ (c .before .before .before .before .if2 .left), le-leb _ _ (c .before .before .if3 .left), lt-leb _ _ (c .if4 .taken))
+
+returns-5 : tie.Need-returns-5
+unfolding layoutOk
+returns-5 c = rw (le-leb _ _ (c .before .before .before .before .before .before .before .before .if1 .left), le-leb _ _ (c .before .before .before .before .before .before .if2 .left), le-leb _ _ (c .before .before .before .before .if3 .left), le-leb _ _ (c .before .before .if4 .left), lt-leb _ _ (c .if5 .taken))
+
+returns-6 : tie.Need-returns-6
+unfolding layoutOk
+returns-6 c = rw (le-leb _ _ (c .before .before .before .before .before .before .before .before .before .if1 .left), le-leb _ _ (c .before .before .before .before .before .before .before .if2 .left), le-leb _ _ (c .before .before .before .before .before .if3 .left), le-leb _ _ (c .before .before .before .if4 .left), le-leb _ _ (c .before .if5 .left))
+
+pub layout-ok-spec : {M : Type 1} → statement M
+layout-ok-spec = tie.close (tie.spec returns returns-2 returns-3 returns-4 returns-5 returns-6)

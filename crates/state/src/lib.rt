@@ -1,0 +1,64 @@
+// The state, and whether it is in range.
+use chip::namco163::Namco163;
+use memory::Memory;
+ghost use mathlib.Core.Path.{_≡_};
+ghost use Rattle.state.specs.Every.{every};
+ghost use Rattle.state.specs.State.{bankTest, mapperOk, chipOk, inRange};
+
+pub mod audio; // audio.rt: the sound's fields
+pub mod tables; // tables.rt: the layout, the used battery length and the entries
+
+// The board's state. Its bytes lie in an arena that the caller lends.
+pub struct State {
+    pub chip: Namco163,
+    pub memory: Memory,
+}
+
+fn banks_ok(banks: [u8; 3]) -> bool
+    ensures { λ r. ⌜ r ≡ every 3 (bankTest banks) ⌝ }
+{
+    let mut i: usize = 0;
+    while i < 3 {
+        let bank = banks[i];
+        if 63 < bank {
+            return false;
+        }
+        i += 1;
+    }
+    true
+}
+
+fn mapper_ok(mapper: u16) -> bool
+    ensures { λ r. ⌜ r ≡ mapperOk mapper ⌝ }
+{
+    if mapper == 19 {
+        return true;
+    }
+    mapper == 210
+}
+
+fn chip_ok(chip: Namco163) -> bool
+    ensures { λ r. ⌜ r ≡ chipOk chip ⌝ }
+{
+    if !mapper_ok(chip.mapper_num) {
+        return false;
+    }
+    let banks = chip.prg_banks;
+    if !banks_ok(banks) {
+        return false;
+    }
+    let sound = chip.audio;
+    audio::audio_ok(sound)
+}
+
+// Whether each field is in range, floats and entries too.
+pub fn in_range(s: State) -> bool
+    ensures { λ r. ⌜ r ≡ inRange s ⌝ }
+{
+    let chip = s.chip;
+    if !chip_ok(chip) {
+        return false;
+    }
+    let m = s.memory;
+    tables::memory_ok(m)
+}

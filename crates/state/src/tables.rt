@@ -1,0 +1,105 @@
+// Whether the layout, the used battery length and the entries are in range.
+use memory::Memory;
+use memory::layout::Layout;
+use memory::page::Page;
+ghost use mathlib.Core.Path.{_≡_};
+ghost use Prim.Native.Nat.{_≤_};
+ghost use Rattle.state.specs.Every.{every};
+ghost use Rattle.state.specs.Tables.{layoutOk, usedOk, entryOk, entryTest, memoryOk};
+
+fn layout_ok(l: Layout) -> bool
+    ensures { λ r. ⌜ r ≡ layoutOk l ⌝ }
+{
+    if 512 < l.prg_rom {
+        return false;
+    }
+    if 64 < l.prg_ram {
+        return false;
+    }
+    if 1 < l.battery_ext {
+        return false;
+    }
+    if 256 < l.chr {
+        return false;
+    }
+    if 4 < l.ciram {
+        return false;
+    }
+    1 <= l.ciram
+}
+
+fn used_ok(used: usize, l: Layout) -> bool
+    ensures { λ r. ⌜ r ≡ usedOk used l ⌝ }
+{
+    if used == 0 {
+        return true;
+    }
+    if used == 128 {
+        return 1 <= l.battery_ext;
+    }
+    false
+}
+
+// An entry of an arena of so many bytes.
+fn entry_ok(bytes: usize, p: Page) -> bool
+    requires { ⌜ bytes ≤ 858112 ⌝ }
+    ensures { λ r. ⌜ r ≡ entryOk bytes p ⌝ }
+{
+    let offset = p.offset();
+    if offset % 1024 != 0 {
+        return false;
+    }
+    if bytes <= offset {
+        return false;
+    }
+    p.0 / 0x4000_0000 % 2 != 1
+}
+
+fn prg_ok(bytes: usize, pages: [Page; 64]) -> bool
+    requires { ⌜ bytes ≤ 858112 ⌝ }
+    ensures { λ r. ⌜ r ≡ every 64 (entryTest bytes pages) ⌝ }
+{
+    let mut i: usize = 0;
+    while i < 64 {
+        let p = pages[i];
+        if !entry_ok(bytes, p) {
+            return false;
+        }
+        i += 1;
+    }
+    true
+}
+
+fn chr_ok(bytes: usize, pages: [Page; 16]) -> bool
+    requires { ⌜ bytes ≤ 858112 ⌝ }
+    ensures { λ r. ⌜ r ≡ every 16 (entryTest bytes pages) ⌝ }
+{
+    let mut i: usize = 0;
+    while i < 16 {
+        let p = pages[i];
+        if !entry_ok(bytes, p) {
+            return false;
+        }
+        i += 1;
+    }
+    true
+}
+
+pub fn memory_ok(m: Memory) -> bool
+    ensures { λ r. ⌜ r ≡ memoryOk m ⌝ }
+{
+    let layout = m.layout;
+    if !layout_ok(layout) {
+        return false;
+    }
+    if !used_ok(m.battery_ext_len, layout) {
+        return false;
+    }
+    let bytes = layout.arena_len();
+    let prg = m.prg_pages;
+    if !prg_ok(bytes, prg) {
+        return false;
+    }
+    let chr = m.chr_pages;
+    chr_ok(bytes, chr)
+}
