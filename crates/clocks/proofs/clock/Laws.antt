@@ -1,0 +1,115 @@
+-- n clocks of the counter: one that does not move stays, one that moves goes up to FFFF, and pends there.
+use Prim.Native.Nat.{ℕ, zero, suc, _+_, _≤_, _<_}
+use mathlib.Core.Path.{_≡_, refl}
+use mathlib.Core.Bool.{true, false}
+use mathlib.Core.Logic.{_⊎_, inl, inr}
+use native.Mathlib.Nat.{eq-or-lt-of-le}
+use native.Mathlib.Omega.{arith}
+use borrow.Author.Tests.{eq-eqb, ne-eqb, lt-ltb, le-ltb}
+use Rattle.cut.specs.Counter.{moves, nextCounter, risesFrom}
+use Rattle.chip.specs.declared.namco163.Regs.{Regs}
+use Rattle.chip.specs.Namco163.{withCounter}
+use Rattle.chip.specs.Clock.{clockCounter}
+use Rattle.clocks.specs.Clock.{counterRun, counterRise}
+
+-- ---- one clock
+
+pub low-stops : (c : ℕ) → c < 0x8000 → moves c ≡ false
+unfolding moves
+low-stops c h = rw (lt-ltb c 0x8000 h)
+
+pub top-stops : (c : ℕ) → c ≡ 0xFFFF → moves c ≡ false
+unfolding moves
+top-stops c e = rw e
+
+quiet : (c : ℕ) → moves c ≡ false → risesFrom c ≡ false
+unfolding risesFrom
+quiet c h = rw h
+
+stays : (r : Regs) → moves (r .«irq_counter») ≡ false → clockCounter r ≡ r
+unfolding clockCounter risesFrom nextCounter
+stays r h = rw h
+
+going : (c : ℕ) → 0x8000 ≤ c → c < 0xFFFF → moves c ≡ true
+unfolding moves
+going c l h = rw (le-ltb c 0x8000 l, ne-eqb c 0xFFFF (λ e. omega arith))
+
+next-up : (c : ℕ) → 0x8000 ≤ c → c < 0xFFFF → nextCounter c ≡ suc c
+unfolding nextCounter
+next-up c l h = rw (going c l h) (omega arith)
+
+quiet-up : (c : ℕ) → 0x8000 ≤ c → suc c < 0xFFFF → risesFrom c ≡ false
+unfolding risesFrom
+quiet-up c l h = rw (going c l (omega arith), next-up c l (omega arith)) (ne-eqb (suc c) 0xFFFF (λ e. omega arith))
+
+rises-up : (c : ℕ) → 0x8000 ≤ c → suc c ≡ 0xFFFF → risesFrom c ≡ true
+unfolding risesFrom
+rises-up c l h = rw (going c l (omega arith), next-up c l (omega arith)) (eq-eqb (suc c) 0xFFFF h)
+
+-- ---- n clocks
+
+pub run-stopped : (n : ℕ) (r : Regs) → moves (r .«irq_counter») ≡ false → counterRun n r ≡ r
+unfolding counterRun
+run-stopped zero r h = refl
+run-stopped (suc n) r h = rw (run-stopped n r h) (stays r h)
+
+pub rise-stopped : (n : ℕ) (r : Regs) → moves (r .«irq_counter») ≡ false → counterRise n r ≡ 0
+unfolding counterRise
+rise-stopped zero r h = refl
+rise-stopped (suc n) r h = rw (run-stopped n r h, quiet (r .«irq_counter») h) (rise-stopped n r h)
+
+-- before the end
+pub run-up : (n : ℕ) (r : Regs) → 0x8000 ≤ r .«irq_counter» → r .«irq_counter» + n < 0xFFFF
+    → counterRun n r ≡ withCounter r (r .«irq_counter» + n) (r .«irq_pending»)
+unfolding counterRun clockCounter
+run-up zero r l h = let e : r .«irq_counter» + 0 ≡ r .«irq_counter» = omega arith in rw e
+run-up (suc n) r l h =
+    let c = r .«irq_counter» in
+    let e : c + suc n ≡ suc (c + n) = omega arith in
+    rw (run-up n r l (omega arith), next-up (c + n) (omega arith) (omega arith), quiet-up (c + n) (omega arith) (omega arith), e)
+
+pub rise-up : (n : ℕ) (r : Regs) → 0x8000 ≤ r .«irq_counter» → r .«irq_counter» + n < 0xFFFF → counterRise n r ≡ 0
+unfolding counterRise
+rise-up zero r l h = refl
+rise-up (suc n) r l h =
+    let c = r .«irq_counter» in
+    rw (run-up n r l (omega arith), quiet-up (c + n) (omega arith) (omega arith)) (rise-up n r l (omega arith))
+
+-- d clocks from the end, and more
+record Ended (n : ℕ) (r : Regs) (d : ℕ) : Type 0 where
+  regs : counterRun n r ≡ withCounter r 0xFFFF true
+  rise : counterRise n r ≡ d
+
+ended-now : (d : ℕ) (r : Regs) → 0x8000 ≤ r .«irq_counter» → r .«irq_counter» + suc d ≡ 0xFFFF → Ended (suc d) r (suc d)
+unfolding counterRun counterRise clockCounter
+ended-now d r l h =
+    let c = r .«irq_counter» in
+    let u = run-up d r l (omega arith) in
+    let e : suc (c + d) ≡ 0xFFFF = omega arith in
+    record {
+      regs = rw (u, next-up (c + d) (omega arith) (omega arith), rises-up (c + d) (omega arith) e, e);
+      rise = rw (u, rises-up (c + d) (omega arith) e);
+    }
+
+ended-more : (n d : ℕ) (r : Regs) → Ended n r d → Ended (suc n) r d
+unfolding counterRun counterRise
+ended-more n d r h =
+    record {
+      regs = rw (h .regs) (stays (withCounter r 0xFFFF true) (top-stops 0xFFFF refl));
+      rise = rw (h .regs, quiet 0xFFFF (top-stops 0xFFFF refl)) (h .rise);
+    }
+
+ended : (n d : ℕ) (r : Regs) → 0x8000 ≤ r .«irq_counter» → r .«irq_counter» + suc d ≡ 0xFFFF → suc d ≤ n → Ended n r (suc d)
+ended zero d r l h k = absurd (omega arith)
+ended (suc n) d r l h k = by (eq-or-lt-of-le {n = d} {m = n} (omega arith)) (ended n d r l h)
+  where
+    by : (d ≡ n) ⊎ (d < n) → (suc d ≤ n → Ended n r (suc d)) → Ended (suc n) r (suc d)
+    by (inl e) ih = rw (← e) (ended-now d r l h)
+    by (inr g) ih = ended-more n (suc d) r (ih (omega arith))
+
+pub run-top : (n d : ℕ) (r : Regs) → 0x8000 ≤ r .«irq_counter» → r .«irq_counter» + suc d ≡ 0xFFFF → suc d ≤ n
+    → counterRun n r ≡ withCounter r 0xFFFF true
+run-top n d r l h k = ended n d r l h k .regs
+
+pub rise-top : (n d : ℕ) (r : Regs) → 0x8000 ≤ r .«irq_counter» → r .«irq_counter» + suc d ≡ 0xFFFF → suc d ≤ n → counterRise n r ≡ suc d
+rise-top n d r l h k = ended n d r l h k .rise

@@ -1,0 +1,102 @@
+-- `put_chip` meets its contract: its parts stand one behind the other.
+use mathlib.Core.Path.{_≡_, refl, sym, ap, _∙_}
+use mathlib.Core.List.{List, [], _∷_, map}
+use lib.ListN.{length, getD, replicate}
+use Prim.Native.Nat.{_+_, _*_}
+use Rattle.bits.specs.Fields.{total, pack}
+use Rattle.bits.specs.Fields.{bit}
+use Rattle.bits.proofs.cursor.Laws.{wrote-word}
+use Rattle.image.specs.Image.{joined, chipWidths, chipFields}
+use Rattle.image.specs.Image.{part}
+use lib.ListN.{length-map}
+use Rattle.image.proofs.Parts.{wrote-to, wrote-end, wrote-part}
+use Rattle.image.proofs.Ranges.{bank-at}
+use native.Mathlib.Omega.{arith}
+use borrow.Author.Needs.{needs}
+use Rattle.image.proofs.writing.put_chip.Statement.{statement}
+use Rattle.image.proofs.writing.put_chip.Tie as tie
+
+regs-word-requires : tie.Need-regs-word-requires
+regs-word-requires c κs = search needs
+
+put-requires : tie.Need-put-requires
+put-requires c κs = search needs
+
+kind-word-requires : tie.Need-kind-word-requires
+kind-word-requires c κs = search needs
+
+put-requires-2 : tie.Need-put-requires-2
+unfolding total
+put-requires-2 c κs = let p = c .before .before .before .before .put .ensures in (p .held, (omega arith, c .kind-word .ensures .1, omega (arith, p .pos, p .len, c .before .before .before .before .before .before .before .before .before .pre .0)))
+
+flags-word-requires : tie.Need-flags-word-requires
+flags-word-requires c κs = search needs
+
+put-requires-3 : tie.Need-put-requires-3
+unfolding total
+put-requires-3 c κs = let p = c .before .before .before .before .before .before .before .before .before .before .put .ensures in let q = c .before .before .before .before .before .put2 .ensures in (q .held, (omega arith, c .flags-word .ensures .1, omega (arith, p .pos, p .len, q .pos, q .len, c .before .before .before .before .before .before .before .before .before .before .before .before .before .before .before .pre .0)))
+
+put-chr-banks-requires : tie.Need-put-chr-banks-requires
+unfolding total
+put-chr-banks-requires c κs = let p = c .before .before .before .before .before .before .before .before .before .before .before .before .before .before .before .put .ensures in let q = c .before .before .before .before .before .before .before .before .before .before .put2 .ensures in let r = c .before .before .before .before .put3 .ensures in (r .held, omega (arith, p .pos, p .len, q .pos, q .len, r .pos, r .len, c .before .before .before .before .before .before .before .before .before .before .before .before .before .before .before .before .before .before .before .before .pre .0))
+
+banks-word-requires : tie.Need-banks-word-requires
+banks-word-requires c κs = let b = bank-at (c .before .before .before .before .before .before .before .before .before .before .before .before .before .before .before .before .before .before .before .before .before .before .before .before .before .args .chip .«prg_banks») (c .before .before .before .before .before .before .before .before .before .before .before .before .before .before .before .before .before .before .before .before .before .before .before .before .before .pre .1) in (b 0 (omega arith), b 1 (omega arith), b 2 (omega arith))
+
+put-requires-4 : tie.Need-put-requires-4
+unfolding total
+put-requires-4 c κs = let p = c .before .before .before .before .before .before .before .before .before .before .before .before .before .before .before .before .before .before .before .before .before .put .ensures in let q = c .before .before .before .before .before .before .before .before .before .before .before .before .before .before .before .before .put2 .ensures in let r = c .before .before .before .before .before .before .before .before .before .before .put3 .ensures in let t = c .before .before .before .before .before .put-chr-banks .ensures in (t .held, (omega arith, c .banks-word .ensures .1, omega (arith, p .pos, p .len, q .pos, q .len, r .pos, r .len, t .pos, t .len, c .before .before .before .before .before .before .before .before .before .before .before .before .before .before .before .before .before .before .before .before .before .before .before .before .before .before .pre .0)))
+
+same-length : tie.Need-same-length
+same-length c = (c .before .before .put4 .ensures .len ∙ c .before .before .before .before .before .before .before .before .put-chr-banks .ensures .len ∙ c .before .before .before .before .before .before .before .before .before .before .before .before .before .put3 .ensures .len ∙ c .before .before .before .before .before .before .before .before .before .before .before .before .before .before .before .before .before .before .before .put2 .ensures .len ∙ c .before .before .before .before .before .before .before .before .before .before .before .before .before .before .before .before .before .before .before .before .before .before .before .before .put .ensures .len)
+
+chip-bits : 0 * 8 + total (joined chipWidths) ≡ 23 * 8
+unfolding total joined
+chip-bits = refl
+
+-- what the types say of the arrays
+lengths-flags : (c : tie.Start) → length (c .args .chip .«nt_bank_enable») ≡ 12
+lengths-flags c = search needs
+
+lengths-chr : (c : tie.Start) → length (c .args .chip .«chr_banks») ≡ 12
+lengths-chr c = search needs
+
+lengths-prg : (c : tie.Start) → length (c .args .chip .«prg_banks») ≡ 3
+lengths-prg c = search needs
+
+returns : tie.Need-returns
+unfolding total
+returns c =
+    let n = c .before .before .before .before .before .before .before .before .before .before .before .before .before .before .before .before .before .before .before .before .before .before .before .before .before .before .before .before .before .args .chip in
+    let f = chipFields n in
+    let lf : length (n .«nt_bank_enable») ≡ 12 = lengths-flags (c .before .before .before .before .before .before .before .before .before .before .before .before .before .before .before .before .before .before .before .before .before .before .before .before .before .before .before .before .before) in
+    let lc : length (n .«chr_banks») ≡ 12 = lengths-chr (c .before .before .before .before .before .before .before .before .before .before .before .before .before .before .before .before .before .before .before .before .before .before .before .before .before .before .before .before .before) in
+    let lp : length (n .«prg_banks») ≡ 3 = lengths-prg (c .before .before .before .before .before .before .before .before .before .before .before .before .before .before .before .before .before .before .before .before .before .before .before .before .before .before .before .before .before) in
+    let p = c .before .before .before .before .before .before .before .before .before .before .before .before .before .before .before .before .before .before .before .before .before .before .before .before .put .ensures in
+    let q = c .before .before .before .before .before .before .before .before .before .before .before .before .before .before .before .before .before .before .before .put2 .ensures in
+    let r = c .before .before .before .before .before .before .before .before .before .before .before .before .before .put3 .ensures in
+    let t = c .before .before .before .before .before .before .before .before .put-chr-banks .ensures in
+    let u = c .before .before .put4 .ensures in
+    wrote-to _ _ 0 23 _ _ _ chip-bits
+    (wrote-part _ _ _ _ _ _ (part chipWidths 0) (part f 0) _ _ refl (wrote-word _ _ _ _ (part chipWidths 0) (part f 0) (rw (c .before .before .before .before .before .before .before .before .before .before .before .before .before .before .before .before .before .before .before .before .before .before .before .before .before .regs-word .ensures .0) at p))
+    (wrote-part _ _ _ _ _ _ (part chipWidths 1) (part f 1) _ _ refl (wrote-word _ _ _ _ (part chipWidths 1) (part f 1) (rw (c .before .before .before .before .before .before .before .before .before .before .before .before .before .before .before .before .before .before .before .before .kind-word .ensures .0) at q))
+    (wrote-part _ _ _ _ _ _ (part chipWidths 2) (part f 2) _ _ (sym (length-map (n .«nt_bank_enable») bit ∙ lf)) (wrote-word _ _ _ _ (part chipWidths 2) (part f 2) (rw (c .before .before .before .before .before .before .before .before .before .before .before .before .before .before .flags-word .ensures .0) at r))
+    (wrote-part _ _ _ _ _ _ (part chipWidths 3) (part f 3) _ _ (sym lc) t
+    (wrote-part _ _ _ _ _ _ (part chipWidths 4) (part f 4) [] [] (sym lp) (wrote-word _ _ _ _ (part chipWidths 4) (part f 4) (rw (c .before .before .before .banks-word .ensures .0) at u))
+    (wrote-end _ _ (u .held)))))))
+
+pub put-chip-spec : {M : Type 1} → statement M
+put-chip-spec =
+    tie.close
+    (tie.spec
+    regs-word-requires
+    put-requires
+    kind-word-requires
+    put-requires-2
+    flags-word-requires
+    put-requires-3
+    put-chr-banks-requires
+    banks-word-requires
+    put-requires-4
+    same-length
+    returns)

@@ -1,0 +1,71 @@
+-- `put_chr_banks` meets its contract: bank after bank.
+use mathlib.Core.Path.{_≡_, refl, sym, ap, _∙_}
+use mathlib.Core.List.{List, [], _∷_}
+use Prim.Native.Nat.{ℕ, _+_, _-_, _*_, _^_, _<_, _≤_}
+use lib.ListN.{length, take, getD, replicate}
+use lib.Seq.{take-all}
+use Rattle.bits.specs.Fields.{total}
+use mir.Val.{Fits}
+use mir.Syntax.{w8}
+use Rattle.bits.specs.Cursor.{Wrote, Held}
+use Rattle.bits.proofs.Fields.{total-replicate}
+use Rattle.bits.proofs.cursor.Laws.{wrote-none, wrote-suc}
+use native.Mathlib.Omega.{arith}
+use borrow.Author.Needs.{needs}
+use Rattle.image.proofs.writing.put_chr_banks.Statement.{statement}
+use Rattle.image.proofs.writing.put_chr_banks.Tie as tie
+
+abbrev Inv-loop : tie.InvT-loop
+Inv-loop img₀ banks c₀ i₀ img c i = (i ≤ 12) × (length banks ≡ 12) × (length img ≡ length img₀) × Wrote img₀ img c₀ c (replicate i 8) (take i banks)
+
+abbrev μ-loop : tie.MeasureT-loop
+μ-loop img₀ banks c₀ i₀ img c i = 12 - i
+
+loop-holds : tie.Need-loop-holds Inv-loop μ-loop
+loop-holds c = (omega arith, search needs, refl, wrote-none (c .before .args .img .now) (c .before .args .w) (c .before .pre .0))
+
+array-read-bank : tie.Need-array-read-bank Inv-loop μ-loop
+array-read-bank c = search needs
+
+cast-put : tie.Need-cast-put Inv-loop μ-loop
+cast-put c = search needs
+
+put-requires : tie.Need-put-requires Inv-loop μ-loop
+put-requires c κs = (c .before .before .loop .inv .3 .held, (omega arith, (let f : Fits w8 (getD (c .before .before .before .before .args .t3) (c .before .before .loop .i) 0) = search needs in f .fits), omega (arith, c .before .before .loop .inv .3 .pos, total-replicate (c .before .before .loop .i) 8)))
+
+add-i : tie.Need-add-i Inv-loop μ-loop
+add-i c = search needs
+
+loop-less : tie.Need-loop-less Inv-loop μ-loop
+loop-less c = search needs
+
+loop-again : tie.Need-loop-again Inv-loop μ-loop
+loop-again c =
+    let l = c .before .before .before .before .before .loop in
+    let s = c .before .before .before .before .before .before .before in
+    (omega arith, l .inv .1, omega arith, wrote-suc (s .args .img .now) (l .img) (c .before .before .put .last .0) (s .args .w) (l .c) (c .before .before .put .result) 8 (s .args .t3) (l .i) (omega arith) (l .inv .3) (c .before .before .put .ensures))
+
+same-length : tie.Need-same-length Inv-loop μ-loop
+same-length c = search needs
+
+returns : tie.Need-returns Inv-loop μ-loop
+returns c =
+    let xs = c .before .before .before .args .t3 in
+    let e : c .before .loop .i ≡ 12 = omega arith in
+    rw (e, take-all 12 xs (omega arith)) at (c .before .loop .inv .3)
+
+pub put-chr-banks-spec : {M : Type 1} → statement M
+put-chr-banks-spec =
+    tie.close
+    (tie.spec
+    Inv-loop
+    μ-loop
+    loop-holds
+    array-read-bank
+    cast-put
+    put-requires
+    add-i
+    loop-less
+    loop-again
+    same-length
+    returns)

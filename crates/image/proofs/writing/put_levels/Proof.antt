@@ -1,0 +1,93 @@
+-- `put_levels` meets its contract: channel after channel.
+use mathlib.Core.Path.{_≡_, refl, sym, ap, _∙_}
+use mathlib.Core.List.{List, [], _∷_, map}
+use Prim.Native.Nat.{ℕ, _+_, _-_, _*_, _%_, _^_, _<_, _≤_}
+use lib.ListN.{length, take, getD, replicate}
+use lib.Seq.{take-all}
+use Rattle.bits.specs.Fields.{total, times, each}
+use Rattle.bits.specs.Cursor.{Wrote, Held}
+use Rattle.bits.proofs.Fields.{total-times}
+use Rattle.bits.proofs.cursor.Laws.{wrote-none, wrote-each}
+use Rattle.state.specs.Audio.{outputTest}
+use Rattle.state.proofs.Every.{every-at}
+use lib.Ieee.{nan}
+use Rattle.image.specs.Image.{byteAt, levelNum}
+use Rattle.image.proofs.Levels.{level-facts}
+use Rattle.image.proofs.Parts.{wrote-to, byte-held, each-map}
+use native.Mathlib.Omega.{arith}
+use borrow.Author.Needs.{needs}
+use Rattle.image.proofs.writing.put_levels.Statement.{statement}
+use Rattle.image.proofs.writing.put_levels.Tie as tie
+
+abbrev Inv-loop : tie.InvT-loop
+Inv-loop img₀ outs c₀ i₀ img c i = (i ≤ 8) × (length outs ≡ 8) × (length img ≡ length img₀) × Wrote img₀ img (byteAt 153) c (times i (12 ∷ [])) (each (λ x. levelNum x ∷ []) (take i outs))
+
+abbrev μ-loop : tie.MeasureT-loop
+μ-loop img₀ outs c₀ i₀ img c i = 8 - i
+
+loop-holds : tie.Need-loop-holds Inv-loop μ-loop
+unfolding times each
+loop-holds c = (omega arith, search needs, refl, wrote-none (c .before .args .img .now) (byteAt 153) (byte-held 153))
+
+mul-x : tie.Need-mul-x Inv-loop μ-loop
+mul-x c = search needs
+
+array-read-x : tie.Need-array-read-x Inv-loop μ-loop
+array-read-x c = search needs
+
+float-to-bits-bits : tie.Need-float-to-bits-bits Inv-loop μ-loop
+float-to-bits-bits c = level-facts _ (every-at 8 (outputTest (c .before .before .before .args .t2)) (c .before .before .before .pre .1) (c .before .loop .i) (omega arith)) .out .number
+
+whole-part-requires : tie.Need-whole-part-requires Inv-loop μ-loop
+whole-part-requires c κs = level-facts _ (every-at 8 (outputTest (c .before .before .before .before .args .t2)) (c .before .before .before .before .pre .1) (c .before .before .loop .i) (omega arith)) .out .bits
+
+cast-put : tie.Need-cast-put Inv-loop μ-loop
+cast-put c = search needs
+
+put-requires : tie.Need-put-requires Inv-loop μ-loop
+unfolding total
+put-requires c κs =
+    let l = c .before .before .before .loop in
+    (l .inv .3 .held, (omega arith, omega (arith, level-facts _ (every-at 8 (outputTest (c .before .before .before .before .before .args .t2)) (c .before .before .before .before .before .pre .1) (c .before .before .before .loop .i) (omega arith)) .small, c .whole-part .ensures .0), omega (arith, l .inv .3 .pos, total-times (l .i) (12 ∷ []))))
+
+add-i : tie.Need-add-i Inv-loop μ-loop
+add-i c = search needs
+
+loop-less : tie.Need-loop-less Inv-loop μ-loop
+loop-less c = search needs
+
+loop-again : tie.Need-loop-again Inv-loop μ-loop
+loop-again c =
+    let l = c .before .before .before .before .before .before .loop in
+    let s = c .before .before .before .before .before .before .before .before in
+    (omega arith, l .inv .1, omega arith, wrote-each (λ x. levelNum x ∷ []) (12 ∷ []) nan (λ x. refl) (s .args .img .now) (l .img) (c .before .before .put .last .0) (byteAt 153) (l .c) (c .before .before .put .result) (s .args .t2) (l .i) (omega arith) (l .inv .3) (rw (c .before .before .before .whole-part .ensures .0) at (c .before .before .put .ensures)))
+
+same-length : tie.Need-same-length Inv-loop μ-loop
+same-length c = search needs
+
+returns : tie.Need-returns Inv-loop μ-loop
+unfolding total times
+returns c =
+    let xs = c .before .before .before .args .t2 in
+    let l = c .before .loop in
+    let e : l .i ≡ 8 = omega arith in
+    wrote-to _ _ 153 165 _ _ _ (omega arith) (rw (each-map levelNum xs) at (rw (e, take-all 8 xs (omega arith)) at (l .inv .3)))
+
+pub put-levels-spec : {M : Type 1} → statement M
+put-levels-spec =
+    tie.close
+    (tie.spec
+    Inv-loop
+    μ-loop
+    loop-holds
+    mul-x
+    array-read-x
+    float-to-bits-bits
+    whole-part-requires
+    cast-put
+    put-requires
+    add-i
+    loop-less
+    loop-again
+    same-length
+    returns)

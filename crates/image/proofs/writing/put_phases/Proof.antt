@@ -1,0 +1,35 @@
+-- `put_phases` meets its contract: phases in range fit their width.
+use mathlib.Core.Path.{_≡_, refl, sym, ap, _∙_}
+use Prim.Native.Nat.{ℕ, _+_, _-_, _*_, _%_, _^_, _<_, _≤_}
+use lib.ListN.{length, take, getD, replicate}
+use Rattle.bits.specs.Fields.{total, pack}
+use Rattle.state.specs.Audio.{phaseTest}
+use Rattle.state.proofs.Every.{every-at}
+use borrow.Author.Tests.{ltb-true}
+use Rattle.image.proofs.Parts.{wrote-to, byte-held, fit-replicate}
+use native.Mathlib.Omega.{arith}
+use borrow.Author.Needs.{needs}
+use Rattle.image.proofs.writing.put_phases.Statement.{statement}
+use Rattle.image.proofs.writing.put_phases.Tie as tie
+
+slice-aggregate-put-run : tie.Need-slice-aggregate-put-run
+slice-aggregate-put-run c = search needs
+
+put-run-requires : tie.Need-put-run-requires
+put-run-requires c κs =
+    let xs = c .before .before .before .args .t2 in
+    let l : length xs ≡ 8 = search needs in
+    (byte-held 169, (omega arith, fit-replicate 24 xs (λ i h. ltb-true (getD xs i 0) 16777216 (every-at 8 (phaseTest xs) (c .before .before .before .pre .1) i (omega arith))), omega arith))
+
+same-length : tie.Need-same-length
+same-length c = search needs
+
+returns : tie.Need-returns
+unfolding total
+returns c =
+    let xs = c .before .before .before .before .before .before .args .t2 in
+    let l : length xs ≡ 8 = search needs in
+    wrote-to _ _ 169 193 _ _ _ (omega arith) (rw l at (c .before .before .put-run .ensures))
+
+pub put-phases-spec : {M : Type 1} → statement M
+put-phases-spec = tie.close (tie.spec slice-aggregate-put-run put-run-requires same-length returns)

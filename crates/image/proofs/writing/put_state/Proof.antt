@@ -1,0 +1,60 @@
+-- `put_state` meets its contract: the parts fill the image.
+use mathlib.Core.Path.{_≡_, refl, sym, ap, _∙_}
+use Prim.Native.Nat.{_*_}
+use lib.ListN.{length, length-map}
+use Rattle.bits.specs.Fields.{total, bit}
+use Rattle.bits.proofs.cursor.Laws.{finish}
+use Rattle.image.specs.Image.{widths, fields, imageOf, joined, partWidths, partFields, chipWidths, chipFields, soundWidths, soundFields, memoryWidths, memoryFields, levelNum}
+use Rattle.image.proofs.Parts.{wrote-parts}
+use Rattle.image.proofs.Whole.{total-widths}
+use Rattle.image.proofs.Ranges.{state-facts}
+use borrow.Author.Needs.{needs}
+use Rattle.image.proofs.writing.put_state.Statement.{statement}
+use Rattle.image.proofs.writing.put_state.Tie as tie
+
+put-chip-requires : tie.Need-put-chip-requires
+put-chip-requires c κs = (search needs, state-facts (c .before .before .before .args .s) (c .before .before .before .pre .1) .banks)
+
+put-sound-requires : tie.Need-put-sound-requires
+put-sound-requires c κs = (search needs, state-facts (c .before .before .before .before .before .before .before .before .args .s) (c .before .before .before .before .before .before .before .before .pre .1) .audio)
+
+put-memory-requires : tie.Need-put-memory-requires
+put-memory-requires c κs = (search needs, state-facts (c .before .before .before .before .before .before .before .before .before .before .before .before .before .args .s) (c .before .before .before .before .before .before .before .before .before .before .before .before .before .pre .1) .memory)
+
+same-length : tie.Need-same-length
+same-length c = search needs
+
+-- what the types say of the arrays
+long-flags : (c : tie.Start) → length (c .args .s .chip .«nt_bank_enable») ≡ 12
+long-flags c = search needs
+
+long-chr : (c : tie.Start) → length (c .args .s .chip .«chr_banks») ≡ 12
+long-chr c = search needs
+
+long-prg : (c : tie.Start) → length (c .args .s .chip .«prg_banks») ≡ 3
+long-prg c = sym (length-map (c .args .s .chip .«prg_banks») _) ∙ c .good .1 .0 .1 .1 .0 .1 .1 .1 .1 .1 .1 .1 .1 .1 .1 .1 .1 .0 .1 .0 .1
+
+long-ram : (c : tie.Start) → length (c .args .s .chip .audio .ram) ≡ 128
+long-ram c = search needs
+
+long-outputs : (c : tie.Start) → length (c .args .s .chip .audio .«channel_out») ≡ 8
+long-outputs c = sym (length-map (c .args .s .chip .audio .«channel_out») _) ∙ c .good .1 .0 .1 .1 .0 .1 .1 .1 .1 .1 .1 .0 .1 .1 .1 .1 .1 .1 .1 .1 .0 .1 .0 .1
+
+long-phases : (c : tie.Start) → length (c .args .s .chip .audio .«phase_ext») ≡ 8
+long-phases c = sym (length-map (c .args .s .chip .audio .«phase_ext») _) ∙ c .good .1 .0 .1 .1 .0 .1 .1 .1 .1 .1 .1 .0 .1 .1 .1 .1 .1 .1 .1 .1 .1 .1 .0 .1 .0 .1
+
+returns : tie.Need-returns
+unfolding imageOf widths fields
+returns c =
+    let s = c .before .before .before .before .before .before .before .before .before .before .before .before .before .before .before .before .args .s in
+    let all = wrote-parts _ _ _ _ _ _ chipWidths (chipFields (s .chip)) _ _ (refl, (refl, (sym (length-map (s .chip .«nt_bank_enable») bit ∙ long-flags (c .before .before .before .before .before .before .before .before .before .before .before .before .before .before .before .before)), (sym (long-chr (c .before .before .before .before .before .before .before .before .before .before .before .before .before .before .before .before)), (sym (long-prg (c .before .before .before .before .before .before .before .before .before .before .before .before .before .before .before .before)), tt)))))
+    (c .before .before .before .before .before .before .before .before .before .before .before .before .put-chip .ensures)
+    (wrote-parts _ _ _ _ _ _ soundWidths (soundFields (s .chip .audio)) memoryWidths (memoryFields (s .memory)) (sym (long-ram (c .before .before .before .before .before .before .before .before .before .before .before .before .before .before .before .before)), (refl, (sym (length-map (s .chip .audio .«channel_out») levelNum ∙ long-outputs (c .before .before .before .before .before .before .before .before .before .before .before .before .before .before .before .before)), (refl, (sym (long-phases (c .before .before .before .before .before .before .before .before .before .before .before .before .before .before .before .before)), tt)))))
+    (c .before .before .before .before .before .before .before .put-sound .ensures) (c .before .before .put-memory .ensures)) in
+    let l : length (c .before .before .put-memory .last .0) ≡ 307 = all .len ∙ c .before .before .before .before .before .before .before .before .before .before .before .before .before .before .before .before .pre .0 in
+    rw l at (finish _ (c .before .before .put-memory .last .0) _ widths (fields s) all (rw l total-widths) (λ i. c .slice-known4 .given i .fits))
+
+pub put-state-spec : {M : Type 1} → statement M
+put-state-spec =
+    tie.close
+    (tie.spec put-chip-requires put-sound-requires put-memory-requires same-length returns)

@@ -1,0 +1,3 @@
+// The image of a state, for a host that keeps it between calls: 307 bytes, bit-packed, most significant bit first.
+
+pub mod writing; // writing.rt: a state to its image

@@ -1,0 +1,2 @@
+-- What the types of a state say.
+pub mod Typed

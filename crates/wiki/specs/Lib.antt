@@ -1,0 +1,2 @@
+-- The wiki's words, and the board beside them.
+pub mod Wiki
