@@ -5,3 +5,5 @@ pub mod State
 pub mod Decided
 pub mod Refused
 pub mod Calls
+pub mod Types
+pub mod Numbers
