@@ -1,0 +1,19 @@
+-- By the test.
+use Prim.Native.Nat.{ℕ, _+_, _-_, _*_, _%_, _/_, _≤_, _<_}
+use mathlib.Core.Path.{_≡_, refl, sym, _∙_, ap}
+use lib.ListN.{length, drop, take, getD}
+use denote.Ref.{now}
+use borrow.Author.Needs.{needs}
+use native.Mathlib.Omega.{arith}
+use borrow.Author.Tests.{le-ltb, lt-ltb, le-leb, lt-leb, eq-eqb, ne-eqb}
+use Rattle.text.proofs.words.is_space.Statement.{statement}
+use Rattle.text.proofs.words.is_space.Tie as tie
+
+returns : tie.Need-returns
+returns c = (rw (eq-eqb _ _ (c .if1 .taken)), search needs)
+
+returns-2 : tie.Need-returns-2
+returns-2 c = (rw (ne-eqb _ _ (c .if1 .left)), search needs)
+
+pub is-space-spec : {M : Type 1} → statement M
+is-space-spec = tie.close (tie.spec returns returns-2)

@@ -1,0 +1,56 @@
+-- The spaces passed, and those that are left, are all.
+use Prim.Native.Nat.{ℕ, _+_, _-_, _*_, _%_, _/_, _≤_, _<_}
+use mathlib.Core.Path.{_≡_, refl, sym, _∙_, ap}
+use lib.ListN.{length, drop, take, getD}
+use denote.Ref.{now}
+use borrow.Author.Needs.{needs}
+use native.Mathlib.Omega.{arith}
+use Rattle.text.specs.Words.{isSpace, spacesIn, behind, wordLength}
+use Rattle.text.proofs.Laws.Words.{spaces-next, spaces-end, behind-none, behind-next, behind-end, word-next, word-end}
+use Rattle.text.proofs.words.spaces.Statement.{statement}
+use Rattle.text.proofs.words.spaces.Tie as tie
+
+abbrev Inv-loop : tie.InvT-loop
+Inv-loop line n₀ i₀ n i = (i ≤ length line) × (n ≤ i) × (n + spacesIn (drop i line) ≡ spacesIn line)
+
+abbrev μ-loop : tie.MeasureT-loop
+μ-loop line n₀ i₀ n i = length line - i
+
+loop-holds : tie.Need-loop-holds Inv-loop μ-loop
+loop-holds c = (omega arith, omega arith, omega arith)
+
+shared-slice-read-is-space : tie.Need-shared-slice-read-is-space Inv-loop μ-loop
+shared-slice-read-is-space c = search needs
+
+is-space-requires : tie.Need-is-space-requires Inv-loop μ-loop
+is-space-requires c κs = search needs
+
+add-n : tie.Need-add-n Inv-loop μ-loop
+add-n c = search needs
+
+add-i : tie.Need-add-i Inv-loop μ-loop
+add-i c = search needs
+
+loop-less : tie.Need-loop-less Inv-loop μ-loop
+loop-less c = search needs
+
+loop-again : tie.Need-loop-again Inv-loop μ-loop
+loop-again c = (search needs, search needs, omega (arith, spaces-next (now (c .before .before .before .before .before .args .line)) (c .before .before .before .loop .i) (omega arith)))
+
+returns : tie.Need-returns Inv-loop μ-loop
+returns c = omega (arith, spaces-end (now (c .before .before .before .args .line)) (c .before .loop .i) (omega arith))
+
+pub spaces-spec : {M : Type 1} → statement M
+spaces-spec =
+    tie.close
+    (tie.spec
+    Inv-loop
+    μ-loop
+    loop-holds
+    shared-slice-read-is-space
+    is-space-requires
+    add-n
+    add-i
+    loop-less
+    loop-again
+    returns)

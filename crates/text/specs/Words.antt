@@ -1,0 +1,30 @@
+-- "Words are separated by one space".
+use Prim.Native.Nat.{ℕ, zero, suc, _+_, _-_}
+use mathlib.Core.Bool.{cond}
+use mathlib.Core.List.{List, [], _∷_}
+use lib.Dec.{eqb}
+use lib.ListN.{take}
+
+abbrev pub isSpace : ℕ → ℕ
+isSpace b = cond (eqb b 32) 1 0
+
+unfoldable pub spacesIn : List ℕ → ℕ
+spacesIn [] = 0
+spacesIn (b ∷ s) = isSpace b + spacesIn s
+
+-- what stands behind the n-th space: nothing where there are fewer
+unfoldable pub behind : ℕ → List ℕ → List ℕ
+behind n [] = []
+behind zero (b ∷ s) = b ∷ s
+behind (suc n) (b ∷ s) = behind (suc n - isSpace b) s
+
+-- how many bytes stand before the first space, or the end
+unfoldable pub wordLength : List ℕ → ℕ
+wordLength [] = 0
+wordLength (b ∷ s) = cond (eqb b 32) 0 (suc (wordLength s))
+
+abbrev pub firstWord : List ℕ → List ℕ
+firstWord s = take (wordLength s) s
+
+abbrev pub wordAt : ℕ → List ℕ → List ℕ
+wordAt n line = firstWord (behind n line)
