@@ -74,7 +74,7 @@ each-map f (x ∷ xs) = ap (λ (l : List ℕ). f x ∷ l) (each-map f xs)
 
 -- ---- elements in groups of four
 
-times-add : (n m : ℕ) (ws : List ℕ) → times (n + m) ws ≡ times n ws ++ times m ws
+pub times-add : (n m : ℕ) (ws : List ℕ) → times (n + m) ws ≡ times n ws ++ times m ws
 unfolding times
 times-add zero m ws = ap (λ (k : ℕ). times k ws) (let e : 0 + m ≡ m = omega arith in e)
 times-add (suc n) m ws =
@@ -129,7 +129,7 @@ pub wrote-part : (a b c : List ℕ) (u v w : Cursor) (ws vs : List ℕ) (wss vss
 unfolding joined
 wrote-part a b c u v w ws vs wss vss e p q = wrote-append a b c u v w ws vs (joined wss) (joined vss) e p q
 
-joined-append : (xs ys : List (List ℕ)) → joined (xs ++ ys) ≡ joined xs ++ joined ys
+pub joined-append : (xs ys : List (List ℕ)) → joined (xs ++ ys) ≡ joined xs ++ joined ys
 unfolding joined
 joined-append [] ys = refl
 joined-append (x ∷ xs) ys = ap (λ (l : List ℕ). x ++ l) (joined-append xs ys) ∙ sym (append-assoc x (joined xs) (joined ys))

@@ -1,0 +1,73 @@
+-- Which images are accepted, by their board's words and the bits of `out`, and the state that they hold.
+use mathlib.Core.Path.{_≡_, refl, ap, ap₂, _∙_}
+use mathlib.Core.Bool.{Bool, true, false, _&&_}
+use mathlib.Core.List.{List}
+use Prim.Native.Nat.{ℕ, _/_, _%_, _^_, _≤_, _<_}
+use native.Mathlib.Omega.{arith}
+use borrow.Author.Tests.{eq-eqb, ne-eqb, le-leb, lt-leb}
+use lib.Dec.{leb}
+use lib.ListN.{length, take, drop, getD}
+use Rattle.bits.specs.Fields.{total, unpack}
+use Rattle.bits.specs.Words.{wordOf}
+use Rattle.state.specs.declared.State.{State}
+use Rattle.state.specs.State.{inRange}
+use Rattle.namco163.specs.Refusals.{firstOf}
+use Rattle.namco163.specs.Load.{noState}
+use Rattle.image.specs.Image.{imageBytes, part, joined, chipWidths}
+use Rattle.image.proofs.Ranges.{state-facts, sound-facts}
+use Rattle.image_read.specs.declared.Head.{Head}
+use Rattle.image_read.specs.Reading.{stateFrom, stateOf, fieldsOk, fieldsOf, fieldsAt, headParts, chipOf, soundAt, memoryAt, readImage}
+use Rattle.image_read.specs.Typed.{Bytes}
+use Rattle.image_read.proofs.Fields.{out-at}
+use Rattle.image_read.proofs.Out.{out-most}
+use Rattle.image_read.proofs.Sections.{image-parts}
+
+-- ---- the three answers
+
+pub refused-length : (img : List ℕ) → (length img ≡ 307 → ⊥) → readImage img ≡ record { refusal = 1; state = noState }
+unfolding readImage firstOf
+refused-length img h = rw (ne-eqb (length img) 307 h)
+
+pub refused-fields : (img : List ℕ) → length img ≡ 307 → fieldsOk (fieldsOf img) ≡ false → readImage img ≡ record { refusal = 2; state = noState }
+unfolding readImage firstOf
+refused-fields img l e = rw (eq-eqb (length img) 307 l, e)
+
+pub accepted : (img : List ℕ) → length img ≡ 307 → fieldsOk (fieldsOf img) ≡ true → readImage img ≡ record { refusal = 0; state = stateOf (fieldsOf img) }
+unfolding readImage firstOf
+accepted img l e = rw (eq-eqb (length img) 307 l, e)
+
+-- ---- the state of an image
+
+module _ (img : List ℕ) (long : length img ≡ imageBytes) (bs : Bytes img) (h : Head) (head : fieldsAt (joined chipWidths) img 0 23 ≡ joined (headParts h))
+    (bits : ℕ) (is : bits ≡ wordOf (take 4 (drop 165 img))) (small : bits < 2 ^ 32) where
+  abbrev held : State
+  held = record { chip = chipOf h (soundAt img bits); memory = memoryAt img }
+
+  pub state-is : stateOf (fieldsOf img) ≡ held
+  unfolding stateOf stateFrom soundAt memoryAt
+  state-is = rw (image-parts img long bs h head, out-at img bits is small)
+
+  ok-is : fieldsOk (fieldsOf img) ≡ leb (h .kind / 2 % 8) 4 && inRange held
+  unfolding fieldsOk unpack total
+  ok-is = ap₂ (λ (p : List (List ℕ)) (s : State). leb (getD (part p 1) 1 0) 4 && inRange s) (image-parts img long bs h head) state-is
+
+  pub refused-mirroring : 4 < h .kind / 2 % 8 → readImage img ≡ record { refusal = 2; state = noState }
+  refused-mirroring l = refused-fields img long (ok-is ∙ rw (lt-leb (h .kind / 2 % 8) 4 l))
+
+  pub refused-range : inRange held ≡ false → readImage img ≡ record { refusal = 2; state = noState }
+  refused-range e = refused-fields img long (ok-is ∙ ap (λ (t : Bool). leb (h .kind / 2 % 8) 4 && t) e ∙ and-no (leb (h .kind / 2 % 8) 4))
+    where
+      and-no : (b : Bool) → b && false ≡ false
+      and-no true = refl
+      and-no false = refl
+
+  pub refused-out : 0x456F1000 < bits → readImage img ≡ record { refusal = 2; state = noState }
+  unfolding soundAt
+  refused-out l = refused-range (go (inRange held) refl)
+    where
+      go : (t : Bool) → inRange held ≡ t → inRange held ≡ false
+      go true e = absurd (let m = out-most bits small (sound-facts (held .chip .audio) (state-facts held e .audio) .out) in omega arith)
+      go false e = e
+
+  pub accepted-state : h .kind / 2 % 8 ≤ 4 → inRange held ≡ true → readImage img ≡ record { refusal = 0; state = held }
+  accepted-state m e = accepted img long (ok-is ∙ rw (le-leb (h .kind / 2 % 8) 4 m, e)) ∙ ap (λ (s : State). record { refusal = 0; state = s }) state-is

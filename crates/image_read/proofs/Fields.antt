@@ -1,0 +1,64 @@
+-- Laws of the fields' values: numbers to boards and mirrorings, and lists of a known length.
+use mathlib.Core.Path.{_≡_, refl}
+use mathlib.Core.List.{List, [], _∷_}
+use Prim.Native.Nat.{ℕ, zero, suc, _/_, _%_, _^_, _<_}
+use native.Mathlib.Nat.{div-one, mod-eq-of-lt}
+use native.Mathlib.Omega.{arith}
+use lib.Pow.{pow-pos}
+use lib.ListN.{length, getD, take, drop, replicate}
+use Rattle.bits.specs.Fields.{total, unpack, Fit}
+use Rattle.bits.specs.Words.{wordOf}
+use Rattle.chip.specs.declared.namco163.Board.the-variants.{Namco340}
+use Rattle.memory.specs.declared.mirroring.Mirroring.the-variants.{FourScreen}
+use Rattle.image_read.specs.Reading.{boardOf, mirroringOf, fieldsAt}
+use Rattle.image.specs.Image.{part, soundWidths, memoryWidths}
+
+pub board-else : (n : ℕ) → (n ≡ 0 → ⊥) → (n ≡ 1 → ⊥) → (n ≡ 2 → ⊥) → Namco340 ≡ boardOf n
+board-else zero a b c = absurd (a refl)
+board-else (suc zero) a b c = absurd (b refl)
+board-else (suc (suc zero)) a b c = absurd (c refl)
+board-else (suc (suc (suc n))) a b c = refl
+
+pub mirroring-else : (n : ℕ) → (n ≡ 0 → ⊥) → (n ≡ 1 → ⊥) → (n ≡ 2 → ⊥) → (n ≡ 3 → ⊥) → FourScreen ≡ mirroringOf n
+mirroring-else zero a b c d = absurd (a refl)
+mirroring-else (suc zero) a b c d = absurd (b refl)
+mirroring-else (suc (suc zero)) a b c d = absurd (c refl)
+mirroring-else (suc (suc (suc zero))) a b c d = absurd (d refl)
+mirroring-else (suc (suc (suc (suc n)))) a b c d = refl
+
+-- a list of eight
+pub eight : (xs : List ℕ) → length xs ≡ 8
+    → xs ≡ getD xs 0 0 ∷ getD xs 1 0 ∷ getD xs 2 0 ∷ getD xs 3 0 ∷ getD xs 4 0 ∷ getD xs 5 0 ∷ getD xs 6 0 ∷ getD xs 7 0 ∷ []
+eight (a ∷ b ∷ c ∷ d ∷ e ∷ f ∷ g ∷ h ∷ []) l = refl
+eight (a ∷ b ∷ c ∷ d ∷ e ∷ f ∷ g ∷ h ∷ i ∷ xs) l = absurd (let z : ⊥ = omega arith in z)
+eight [] l = absurd (let z : ⊥ = omega arith in z)
+eight (a ∷ []) l = absurd (let z : ⊥ = omega arith in z)
+eight (a ∷ b ∷ []) l = absurd (let z : ⊥ = omega arith in z)
+eight (a ∷ b ∷ c ∷ []) l = absurd (let z : ⊥ = omega arith in z)
+eight (a ∷ b ∷ c ∷ d ∷ []) l = absurd (let z : ⊥ = omega arith in z)
+eight (a ∷ b ∷ c ∷ d ∷ e ∷ []) l = absurd (let z : ⊥ = omega arith in z)
+eight (a ∷ b ∷ c ∷ d ∷ e ∷ f ∷ []) l = absurd (let z : ⊥ = omega arith in z)
+eight (a ∷ b ∷ c ∷ d ∷ e ∷ f ∷ g ∷ []) l = absurd (let z : ⊥ = omega arith in z)
+
+-- ---- the fields of one word
+
+module _ (img : List ℕ) (w : ℕ) where
+  pub port-at : w ≡ wordOf (take 2 (drop 151 img)) → fieldsAt (part soundWidths 1) img 151 2 ≡ w / 512 % 128 ∷ w / 256 % 2 ∷ w / 128 % 2 ∷ w / 8 % 16 ∷ w % 8 ∷ []
+  unfolding fieldsAt unpack total
+  port-at e = rw (← e, div-one w)
+
+  pub out-at : w ≡ wordOf (take 4 (drop 165 img)) → w < 2 ^ 32 → fieldsAt (part soundWidths 3) img 165 4 ≡ w ∷ []
+  unfolding fieldsAt unpack total
+  out-at e h = rw (← e, div-one w, mod-eq-of-lt h)
+
+  pub layout-at : w ≡ wordOf (take 4 (drop 303 img))
+      → fieldsAt (part memoryWidths 2) img 303 4 ≡ w / 0x400000 % 1024 ∷ w / 0x8000 % 128 ∷ w / 0x4000 % 2 ∷ w / 32 % 512 ∷ w / 16 % 2 ∷ w / 2 % 8 ∷ w % 2 ∷ []
+  unfolding fieldsAt unpack total
+  layout-at e = rw (← e, div-one w)
+
+-- fields of w bits are below 2 to the w, beyond the last too
+pub fit-below : (n w : ℕ) (xs : List ℕ) → Fit (replicate n w) xs → (i : ℕ) → getD xs i 0 < 2 ^ w
+fit-below n w [] f i = pow-pos w
+fit-below zero w (x ∷ xs) f i = absurd f
+fit-below (suc n) w (x ∷ xs) f zero = f .0
+fit-below (suc n) w (x ∷ xs) f (suc i) = fit-below n w xs (f .1) i

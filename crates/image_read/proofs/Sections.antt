@@ -1,0 +1,167 @@
+-- Laws of the parts of an image: what a reader finds in some bytes is the fields of those bytes, and all parts together are the image's fields.
+use mathlib.Core.Path.{_≡_, refl, sym, ap, ap₂, _∙_, subst}
+use mathlib.Core.List.{List, [], _∷_, _++_}
+use Prim.Native.Nat.{ℕ, _+_, _-_, _*_, _^_, _≤_, _<_}
+use native.Mathlib.Nat.{div-one, mod-one}
+use native.Mathlib.Omega.{arith}
+use lib.ListN.{length, take, drop, length-drop}
+use lib.Seq.{take-add, take-at, drop-at, length-take-le}
+use Rattle.bits.specs.Fields.{total, pack, unpack, Fit, after, times}
+use Rattle.bits.specs.Words.{wordOf, eights}
+use Rattle.bits.specs.Cursor.{Behind, Read, bitsRead}
+use Rattle.bits.specs.declared.cursor.Cursor.{Cursor}
+use Rattle.bits.proofs.Fields.{pack-lt, pack-unpack, unpack-pack, fit-unpack, length-unpack}
+use Rattle.bits.proofs.words.Laws.{total-eights, word-append}
+use Rattle.bits.proofs.cursor.Laws.{read-append, read-none, finish-read, bytes-read}
+use Rattle.image.specs.Image.{imageBytes, part, joined, chipWidths, soundWidths, memoryWidths, partWidths, widths, byteAt}
+use Rattle.image.proofs.Parts.{SameLengths, joined-append}
+use Rattle.image.proofs.Whole.{total-widths}
+use Rattle.image_read.specs.declared.Head.{Head}
+use Rattle.image_read.specs.Reading.{cutInto, fieldsOf, fieldsAt, headParts}
+use Rattle.image_read.specs.Typed.{Bytes}
+
+-- ---- the fields of some bytes
+
+module _ (img : List ℕ) (a k : ℕ) (inside : a + k ≤ length img) where
+  long-mid : length (take k (drop a img)) ≡ k
+  long-mid = length-take-le k (drop a img) (rw length-drop (omega arith))
+
+  word-to : wordOf (take (a + k) img) ≡ wordOf (take a img) * 2 ^ (k * 8) + wordOf (take k (drop a img))
+  word-to =
+      ap wordOf (take-add a k img) ∙ word-append (take a img) (take k (drop a img))
+      ∙ ap (λ (l : ℕ). wordOf (take a img) * 2 ^ (l * 8) + wordOf (take k (drop a img))) long-mid
+
+  -- what a reader finds there is their fields
+  pub section-is : (q : Cursor) (ws vs : List ℕ) → total ws ≡ k * 8 → Read img (byteAt a) q ws vs → fieldsAt ws img a k ≡ vs
+  unfolding fieldsAt bitsRead after
+  section-is q ws vs t r =
+      let n0 : q .n ≡ 0 = omega (arith, r .pos, r .behind .few) in
+      let e : q .at ≡ a + k = omega (arith, r .pos, r .behind .few) in
+      let b : wordOf (take (a + k) img) ≡ wordOf (take a img) * 2 ^ (k * 8) + pack ws vs =
+      sym (div-one (wordOf (take (a + k) img))) ∙ rw (n0, e, t, div-one (wordOf (take a img))) at (r .bits) in
+      let w : wordOf (take k (drop a img)) ≡ pack ws vs = omega (arith, b, word-to) in
+      ap (unpack ws) w ∙ unpack-pack ws vs (r .fit)
+
+  -- and a reader finds them there
+  pub section-read : Bytes img → (ws : List ℕ) → total ws ≡ k * 8 → Read img (byteAt a) (byteAt (a + k)) ws (fieldsAt ws img a k)
+  unfolding fieldsAt bitsRead after
+  section-read bs ws t =
+      let xs = take k (drop a img) in
+      let r = bytes-read img (byteAt a) (byteAt (a + k)) xs k refl refl inside bs refl refl refl refl in
+      let f : Fit (eights (length xs)) xs = subst (λ (m : ℕ). Fit (eights m) xs) (sym long-mid) (r .fit) in
+      let small : wordOf xs < 2 ^ total ws =
+      subst (λ (m : ℕ). wordOf xs < 2 ^ m) (total-eights (length xs) ∙ ap (λ (m : ℕ). m * 8) long-mid ∙ sym t) (pack-lt (eights (length xs)) xs f) in
+      record {
+        behind = r .behind;
+        pos = omega (arith, t);
+        fit = fit-unpack ws (wordOf xs);
+        bits =
+            div-one (wordOf (take (a + k) img)) ∙ word-to
+            ∙ rw (t, div-one (wordOf (take a img)), pack-unpack ws (wordOf xs) small);
+      }
+
+-- ---- parts one behind the other
+
+pub read-part : (img : List ℕ) (p q r : Cursor) (ws vs : List ℕ) (wss vss : List (List ℕ)) → Read img p q ws vs → Read img q r (joined wss) (joined vss)
+    → Read img p r (joined (ws ∷ wss)) (joined (vs ∷ vss))
+unfolding joined
+read-part img p q r ws vs wss vss f g = read-append img p q r ws vs (joined wss) (joined vss) f g
+
+pub read-end : (img : List ℕ) (r : Cursor) → Behind img r → Read img r r (joined []) (joined [])
+unfolding joined
+read-end img r h = read-none img r h
+
+pub byte-behind : (img : List ℕ) (k : ℕ) → Behind img (byteAt k)
+byte-behind img k = record { few = omega arith; inside = omega arith; last = sym (mod-one _) }
+
+pub cut-joined : (ws vs : List (List ℕ)) → SameLengths ws vs → cutInto ws (joined vs) ≡ vs
+unfolding cutInto joined
+cut-joined [] [] h = refl
+cut-joined [] (v ∷ vs) h = absurd h
+cut-joined (w ∷ ws) [] h = absurd h
+cut-joined (w ∷ ws) (v ∷ vs) h =
+    ap₂ (λ (x : List ℕ) (xs : List (List ℕ)). x ∷ xs) (take-at v (joined vs) (length w) (sym (h .0)))
+    (ap (cutInto ws) (drop-at v (joined vs) (length w) (sym (h .0))) ∙ cut-joined ws vs (h .1))
+
+-- ---- all parts
+
+abbrev pub soundParts : List ℕ → List (List ℕ)
+soundParts img =
+    fieldsAt (part soundWidths 0) img 23 128
+    ∷ fieldsAt (part soundWidths 1) img 151 2
+    ∷ fieldsAt (part soundWidths 2) img 153 12
+    ∷ fieldsAt (part soundWidths 3) img 165 4
+    ∷ fieldsAt (part soundWidths 4) img 169 24
+    ∷ []
+
+abbrev pub memoryParts : List ℕ → List (List ℕ)
+memoryParts img = fieldsAt (part memoryWidths 0) img 193 88 ∷ fieldsAt (part memoryWidths 1) img 281 22 ∷ fieldsAt (part memoryWidths 2) img 303 4 ∷ []
+
+long-at : (ws img : List ℕ) (a k : ℕ) → length ws ≡ length (fieldsAt ws img a k)
+unfolding fieldsAt
+long-at ws img a k = sym (length-unpack ws (wordOf (take k (drop a img))))
+
+pub chip-bits : total (joined chipWidths) ≡ 23 * 8
+unfolding total joined
+chip-bits = refl
+
+module _ (img : List ℕ) (long : length img ≡ imageBytes) (bs : Bytes img) where
+  abbrev rest : List (List ℕ)
+  rest = soundParts img ++ memoryParts img
+
+  prg-bits : total (part memoryWidths 0) ≡ 88 * 8
+  unfolding total times
+  prg-bits = refl
+
+  chr-bits : total (part memoryWidths 1) ≡ 22 * 8
+  unfolding total times
+  chr-bits = refl
+
+  read-rest : Read img (byteAt 23) (byteAt 307) (joined (soundWidths ++ memoryWidths)) (joined rest)
+  unfolding total
+  read-rest =
+      read-part img (byteAt 23) (byteAt 151) (byteAt 307) (part soundWidths 0) (part rest 0) _ _ (section-read img 23 128 (omega arith) bs (part soundWidths 0) refl)
+      (read-part img (byteAt 151) (byteAt 153) (byteAt 307) (part soundWidths 1) (part rest 1) _ _ (section-read img 151 2 (omega arith) bs (part soundWidths 1) refl)
+      (read-part img (byteAt 153) (byteAt 165) (byteAt 307) (part soundWidths 2) (part rest 2) _ _ (section-read img 153 12 (omega arith) bs (part soundWidths 2) refl)
+      (read-part img (byteAt 165) (byteAt 169) (byteAt 307) (part soundWidths 3) (part rest 3) _ _ (section-read img 165 4 (omega arith) bs (part soundWidths 3) refl)
+      (read-part img (byteAt 169) (byteAt 193) (byteAt 307) (part soundWidths 4) (part rest 4) _ _ (section-read img 169 24 (omega arith) bs (part soundWidths 4) refl)
+      (read-part img (byteAt 193) (byteAt 281) (byteAt 307) (part memoryWidths 0) (part rest 5) _ _ (section-read img 193 88 (omega arith) bs (part memoryWidths 0) prg-bits)
+      (read-part img (byteAt 281) (byteAt 303) (byteAt 307) (part memoryWidths 1) (part rest 6) _ _ (section-read img 281 22 (omega arith) bs (part memoryWidths 1) chr-bits)
+      (read-part img (byteAt 303) (byteAt 307) (byteAt 307) (part memoryWidths 2) (part rest 7) [] [] (section-read img 303 4 (omega arith) bs (part memoryWidths 2) refl)
+      (read-end img (byteAt 307) (byte-behind img 307)))))))))
+
+  same-rest : SameLengths (soundWidths ++ memoryWidths) rest
+  same-rest = (
+    long-at (part soundWidths 0) img 23 128,
+    (
+      long-at (part soundWidths 1) img 151 2,
+      (
+        long-at (part soundWidths 2) img 153 12,
+        (
+          long-at (part soundWidths 3) img 165 4,
+          (
+            long-at (part soundWidths 4) img 169 24,
+            (long-at (part memoryWidths 0) img 193 88, (long-at (part memoryWidths 1) img 281 22, (long-at (part memoryWidths 2) img 303 4, tt))),
+          ),
+        ),
+      ),
+    ),
+  )
+
+  -- the image's fields in parts, given the board's
+  module _ (h : Head) (head : fieldsAt (joined chipWidths) img 0 23 ≡ joined (headParts h)) where
+    fields-are : fieldsOf img ≡ joined (headParts h ++ rest)
+    unfolding fieldsOf widths
+    fields-are =
+        finish-read img (byteAt 307) (joined partWidths) (joined (headParts h ++ rest))
+        (rw (joined-append chipWidths (soundWidths ++ memoryWidths), joined-append (headParts h) rest)
+        (read-append img (byteAt 0) (byteAt 23) (byteAt 307) (joined chipWidths) (joined (headParts h)) (joined (soundWidths ++ memoryWidths)) (joined rest)
+        (rw head at (section-read img 0 23 (omega arith) bs (joined chipWidths) chip-bits)) read-rest))
+        (rw long total-widths)
+
+    same-parts : SameLengths partWidths (headParts h ++ rest)
+    unfolding unpack
+    same-parts = (refl, (refl, (refl, (refl, (refl, same-rest)))))
+
+    pub image-parts : cutInto partWidths (fieldsOf img) ≡ headParts h ++ rest
+    image-parts = ap (cutInto partWidths) fields-are ∙ cut-joined partWidths (headParts h ++ rest) same-parts

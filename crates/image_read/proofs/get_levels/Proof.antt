@@ -1,0 +1,30 @@
+-- `get_levels` meets its contract: 12 bits are below 4096.
+use mathlib.Core.Path.{refl, sym, ap, _∙_}
+use Prim.Native.Nat.{_-_}
+use lib.ListN.{replicate}
+use Rattle.bits.specs.Fields.{total}
+use mathlib.Core.List.{map}
+use Rattle.sound.specs.Mix.{whole}
+use Rattle.image_read.proofs.Fields.{fit-below}
+use Rattle.image_read.proofs.Sections.{section-is}
+use native.Mathlib.Omega.{arith}
+use borrow.Author.Needs.{needs}
+use Rattle.image_read.proofs.get_levels.Statement.{statement}
+use Rattle.image_read.proofs.get_levels.Tie as tie
+
+slice-aggregate-get-run : tie.Need-slice-aggregate-get-run
+slice-aggregate-get-run c = search needs
+
+get-run-requires : tie.Need-get-run-requires
+get-run-requires c κs = search needs
+
+levels-of-requires : tie.Need-levels-of-requires
+levels-of-requires c κs = fit-below 8 12 (c .before .get-run .last .1 .1 .1 .0) (c .before .get-run .ensures .fit)
+
+returns : tie.Need-returns
+unfolding total
+returns c = c .levels-of .ensures ∙ ap (map whole) (sym (section-is (c .before .before .before .before .before .args .img .now) 153 12 (omega arith) _ (replicate 8 12) _ refl (c .before .before .get-run .ensures)))
+
+pub get-levels-spec : {M : Type 1} → statement M
+get-levels-spec =
+    tie.close (tie.spec slice-aggregate-get-run get-run-requires levels-of-requires returns)

@@ -1,0 +1,36 @@
+-- `read_memory` meets its contract, part by part.
+use mathlib.Core.Path.{_≡_}
+use Prim.Native.Nat.{_-_, _%_}
+use native.Mathlib.Nat.{mul-comm}
+use lib.ListN.{take, drop}
+use Rattle.bits.specs.Words.{wordOf}
+use Rattle.image_read.specs.Reading.{memoryAt}
+use Rattle.image_read.proofs.Fields.{layout-at}
+use native.Mathlib.Omega.{arith}
+use borrow.Author.Needs.{needs}
+use Rattle.image_read.proofs.read_memory.Statement.{statement}
+use Rattle.image_read.proofs.read_memory.Tie as tie
+
+get-prg-pages-requires : tie.Need-get-prg-pages-requires
+get-prg-pages-requires c κs = search needs
+
+get-chr-pages-requires : tie.Need-get-chr-pages-requires
+get-chr-pages-requires c κs = search needs
+
+load-requires : tie.Need-load-requires
+load-requires c κs = search needs
+
+mul-t7 : tie.Need-mul-t7
+mul-t7 c = search needs
+
+returns : tie.Need-returns
+unfolding memoryAt
+returns c =
+    let img = c .before .before .before .before .args .img .now in
+    let w = c .load .result in
+    let e : w ≡ wordOf (take 4 (drop 303 img)) = omega (arith, c .load .ensures .0) in
+    rw (layout-at img w e, mul-comm 128 (w % 2), c .before .before .get-prg-pages .ensures, c .before .get-chr-pages .ensures)
+
+pub read-memory-spec : {M : Type 1} → statement M
+read-memory-spec =
+    tie.close (tie.spec get-prg-pages-requires get-chr-pages-requires load-requires mul-t7 returns)

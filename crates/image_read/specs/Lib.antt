@@ -1,0 +1,3 @@
+-- The state that an image holds. What stands in quotes is a sentence of 01, the scope document.
+pub mod Reading
+pub mod Typed

@@ -1,0 +1,406 @@
+// An image to its state.
+use bits::cursor::Cursor;
+use bits::cursor::get;
+use bits::cursor::get_bytes;
+use bits::cursor::get_run;
+use bits::words::load;
+use chip::namco163::Board;
+use chip::namco163::Namco163;
+use chip::namco163::Regs;
+use memory::Memory;
+use memory::layout::Layout;
+use memory::mirroring::Mirroring;
+use memory::page::Page;
+use namco163::load::no_state;
+use sound::audio::Audio;
+use state::State;
+use state::in_range;
+ghost use mathlib.Core.Path.{_≡_};
+ghost use mathlib.Core.List.{[], _∷_, _++_, map};
+ghost use Prim.Native.Nat.{ℕ, _+_, _*_, _/_, _%_, _^_, _<_, _≤_};
+ghost use lib.ListN.{length, getD, replicate};
+ghost use Rattle.bits.specs.Fields.{unpack, times};
+ghost use Rattle.memory.specs.Page.{pageOf};
+ghost use Rattle.sound.specs.Mix.{whole};
+ghost use Rattle.namco163.specs.Load.{noState};
+ghost use Rattle.image.specs.Image.{imageBytes, part, chipWidths, pageWidths, joined};
+ghost use Rattle.image_read.specs.Reading.{yes, regsFrom, boardOf, mirroringOf, pagesOf, fieldsAt, headParts, HeadFits, chipOf, soundAt, memoryAt, readImage};
+
+// What a read answers. Where it is refused, the state is one that no call accepts.
+pub struct ReadImage {
+    pub refusal: u8,
+    pub state: State,
+}
+
+// The board's fields as the words that hold them.
+pub struct Head {
+    pub regs: u64,
+    pub kind: u64,
+    pub flags: u64,
+    pub chr_first: u64,
+    pub chr_last: u64,
+    pub prg: u64,
+}
+
+fn board_of(n: u64) -> Board
+    ensures { λ r. ⌜ r ≡ boardOf n ⌝ }
+{
+    if n == 0 {
+        return Board::Unknown;
+    }
+    if n == 1 {
+        return Board::Namco163;
+    }
+    if n == 2 {
+        return Board::Namco175;
+    }
+    Board::Namco340
+}
+
+fn mirroring_of(n: u64) -> Mirroring
+    ensures { λ r. ⌜ r ≡ mirroringOf n ⌝ }
+{
+    if n == 0 {
+        return Mirroring::Vertical;
+    }
+    if n == 1 {
+        return Mirroring::Horizontal;
+    }
+    if n == 2 {
+        return Mirroring::SingleScreenA;
+    }
+    if n == 3 {
+        return Mirroring::SingleScreenB;
+    }
+    Mirroring::FourScreen
+}
+
+// The twelve CIRAM flags of their word.
+fn flags_of(w: u64) -> [bool; 12]
+    ensures { λ r. ⌜ r ≡ map yes (unpack (replicate 12 1) w) ⌝ }
+{
+    [
+        w / 2048 % 2 == 1,
+        w / 1024 % 2 == 1,
+        w / 512 % 2 == 1,
+        w / 256 % 2 == 1,
+        w / 128 % 2 == 1,
+        w / 64 % 2 == 1,
+        w / 32 % 2 == 1,
+        w / 16 % 2 == 1,
+        w / 8 % 2 == 1,
+        w / 4 % 2 == 1,
+        w / 2 % 2 == 1,
+        w % 2 == 1,
+    ]
+}
+
+// The twelve CHR banks of two words, six in each.
+fn chr_banks_of(a: u64, b: u64) -> [u8; 12]
+    ensures { λ r. ⌜ r ≡ unpack (replicate 6 8) a ++ unpack (replicate 6 8) b ⌝ }
+{
+    [
+        (a / 0x0100_0000_0000 % 256) as u8,
+        (a / 0x0001_0000_0000 % 256) as u8,
+        (a / 0x0100_0000 % 256) as u8,
+        (a / 0x0001_0000 % 256) as u8,
+        (a / 0x0100 % 256) as u8,
+        (a % 256) as u8,
+        (b / 0x0100_0000_0000 % 256) as u8,
+        (b / 0x0001_0000_0000 % 256) as u8,
+        (b / 0x0100_0000 % 256) as u8,
+        (b / 0x0001_0000 % 256) as u8,
+        (b / 0x0100 % 256) as u8,
+        (b % 256) as u8,
+    ]
+}
+
+fn prg_banks_of(w: u64) -> [u8; 3]
+    ensures { λ r. ⌜ r ≡ unpack (replicate 3 6) w ⌝ }
+{
+    [(w / 4096 % 64) as u8, (w / 64 % 64) as u8, (w % 64) as u8]
+}
+
+// The channel outputs of their whole numbers.
+fn levels_of(ns: [u32; 8]) -> [f32; 8]
+    requires { ⌜ ((i : ℕ) → getD ns i 0 < 4096) ⌝ }
+    ensures { λ r. ⌜ r ≡ map whole ns ⌝ }
+{
+    [
+        ns[0] as f32,
+        ns[1] as f32,
+        ns[2] as f32,
+        ns[3] as f32,
+        ns[4] as f32,
+        ns[5] as f32,
+        ns[6] as f32,
+        ns[7] as f32,
+    ]
+}
+
+// An entry of its 11 bits.
+fn page_of(w: u64) -> Page
+    requires { ⌜ w < 2 ^ 11 ⌝ }
+    ensures { λ r. ⌜ r ≡ pageOf (1024 * (w / 2)) (yes (w % 2)) ⌝ }
+{
+    Page::new((w / 2 * 1024) as usize, w % 2 == 1)
+}
+
+fn regs_of(w: u64) -> Regs
+    ensures { λ r. ⌜ r ≡ regsFrom (unpack (part chipWidths 0) w) ⌝ }
+{
+    Regs {
+        irq_counter: (w / 0x20_0000_0000 % 65536) as u16,
+        irq_pending: w / 0x10_0000_0000 % 2 == 1,
+        nt_select_lo: w / 0x08_0000_0000 % 2 == 1,
+        nt_select_hi: w / 0x04_0000_0000 % 2 == 1,
+        prg_ram_protect: (w / 0x0400_0000 % 256) as u8,
+    }
+}
+
+fn get_prg_pages(img: &[u8]) -> [Page; 64]
+    requires { ⌜ length (now img) ≡ imageBytes ⌝ }
+    ensures { λ r. ⌜ r ≡ pagesOf (fieldsAt (times 64 pageWidths) (now (img .entry)) 193 88) ⌝ }
+{
+    let page = Page::UNMAPPED;
+    let mut pages = [page; 64];
+    let mut c = Cursor {
+        acc: 0,
+        n: 0,
+        at: 193,
+    };
+    let mut i: usize = 0;
+    while i < 64 {
+        let g = get(img, c, 44);
+        let w = g.v;
+        let p = page_of(w / 0x0002_0000_0000);
+        let q = page_of(w / 0x0040_0000 % 2048);
+        let r = page_of(w / 2048 % 2048);
+        let s = page_of(w % 2048);
+        pages[i] = p;
+        pages[i + 1] = q;
+        pages[i + 2] = r;
+        pages[i + 3] = s;
+        c = g.next;
+        i += 4;
+    }
+    pages
+}
+
+fn get_chr_pages(img: &[u8]) -> [Page; 16]
+    requires { ⌜ length (now img) ≡ imageBytes ⌝ }
+    ensures { λ r. ⌜ r ≡ pagesOf (fieldsAt (times 16 pageWidths) (now (img .entry)) 281 22) ⌝ }
+{
+    let page = Page::UNMAPPED;
+    let mut pages = [page; 16];
+    let mut c = Cursor {
+        acc: 0,
+        n: 0,
+        at: 281,
+    };
+    let mut i: usize = 0;
+    while i < 16 {
+        let g = get(img, c, 44);
+        let w = g.v;
+        let p = page_of(w / 0x0002_0000_0000);
+        let q = page_of(w / 0x0040_0000 % 2048);
+        let r = page_of(w / 2048 % 2048);
+        let s = page_of(w % 2048);
+        pages[i] = p;
+        pages[i + 1] = q;
+        pages[i + 2] = r;
+        pages[i + 3] = s;
+        c = g.next;
+        i += 4;
+    }
+    pages
+}
+
+// The board's words, one behind the other.
+fn read_head(img: &[u8]) -> Head
+    requires { ⌜ length (now img) ≡ imageBytes ⌝ }
+    ensures { λ r. ⌜ (fieldsAt (joined chipWidths) (now (img .entry)) 0 23 ≡ joined (headParts r)) × HeadFits r ⌝ }
+{
+    let start = Cursor {
+        acc: 0,
+        n: 0,
+        at: 0,
+    };
+    let regs = get(img, start, 53);
+    let kind = get(img, regs.next, 5);
+    let flags = get(img, kind.next, 12);
+    let first = get(img, flags.next, 48);
+    let last = get(img, first.next, 48);
+    let prg = get(img, last.next, 18);
+    Head {
+        regs: regs.v,
+        kind: kind.v,
+        flags: flags.v,
+        chr_first: first.v,
+        chr_last: last.v,
+        prg: prg.v,
+    }
+}
+
+fn chip_of(h: Head, audio: Audio) -> Namco163
+    requires { ⌜ HeadFits h ⌝ }
+    ensures { λ r. ⌜ r ≡ chipOf h audio ⌝ }
+{
+    let regs = regs_of(h.regs);
+    let board = board_of(h.regs / 0x0100_0000 % 4);
+    let mirroring = mirroring_of(h.kind / 2 % 8);
+    let nt_bank_enable = flags_of(h.flags);
+    let chr_banks = chr_banks_of(h.chr_first, h.chr_last);
+    let prg_banks = prg_banks_of(h.prg);
+    Namco163 {
+        regs: regs,
+        board: board,
+        mapper_num: (h.regs / 256 % 65536) as u16,
+        submapper_num: (h.regs % 256) as u8,
+        audio: audio,
+        auto_detect_board: h.kind / 16 % 2 == 1,
+        mirroring: mirroring,
+        prg_ram_written_to: h.kind % 2 == 1,
+        nt_bank_enable: nt_bank_enable,
+        chr_banks: chr_banks,
+        prg_banks: prg_banks,
+    }
+}
+
+fn get_ram(img: &[u8]) -> [u8; 128]
+    requires { ⌜ length (now img) ≡ imageBytes ⌝ }
+    ensures { λ r. ⌜ r ≡ fieldsAt (replicate 128 8) (now (img .entry)) 23 128 ⌝ }
+{
+    let mut ram = [0u8; 128];
+    let c = Cursor {
+        acc: 0,
+        n: 0,
+        at: 23,
+    };
+    get_bytes(img, c, &mut ram);
+    ram
+}
+
+fn get_levels(img: &[u8]) -> [f32; 8]
+    requires { ⌜ length (now img) ≡ imageBytes ⌝ }
+    ensures { λ r. ⌜ r ≡ map whole (fieldsAt (replicate 8 12) (now (img .entry)) 153 12) ⌝ }
+{
+    let mut ns = [0u32; 8];
+    let c = Cursor {
+        acc: 0,
+        n: 0,
+        at: 153,
+    };
+    get_run(img, c, 12, &mut ns);
+    levels_of(ns)
+}
+
+fn get_phases(img: &[u8]) -> [u32; 8]
+    requires { ⌜ length (now img) ≡ imageBytes ⌝ }
+    ensures { λ r. ⌜ r ≡ fieldsAt (replicate 8 24) (now (img .entry)) 169 24 ⌝ }
+{
+    let mut phases = [0u32; 8];
+    let c = Cursor {
+        acc: 0,
+        n: 0,
+        at: 169,
+    };
+    get_run(img, c, 24, &mut phases);
+    phases
+}
+
+// The sound, given the bits of `out`, which are a number's.
+fn read_sound(img: &[u8], bits: u32) -> Audio
+    requires { ⌜ (length (now img) ≡ imageBytes) × (bits ≤ 0x456F1000) ⌝ }
+    ensures { λ r. ⌜ r ≡ soundAt (now (img .entry)) bits ⌝ }
+{
+    let ram = get_ram(img);
+    let port = load(img, 151, 2, 0);
+    let outs = get_levels(img);
+    let phases = get_phases(img);
+    let out = f32::from_bits(bits);
+    Audio {
+        ram: ram,
+        addr: (port / 512 % 128) as usize,
+        auto_increment: port / 256 % 2 == 1,
+        disabled: port / 128 % 2 == 1,
+        update_counter: (port / 8 % 16) as u8,
+        current_channel: (port % 8) as u8,
+        channel_out: outs,
+        out: out,
+        phase_ext: phases,
+    }
+}
+
+fn read_memory(img: &[u8]) -> Memory
+    requires { ⌜ length (now img) ≡ imageBytes ⌝ }
+    ensures { λ r. ⌜ r ≡ memoryAt (now (img .entry)) ⌝ }
+{
+    let prg = get_prg_pages(img);
+    let chr = get_chr_pages(img);
+    let w = load(img, 303, 4, 0);
+    let layout = Layout {
+        prg_rom: (w / 0x0040_0000 % 1024) as usize,
+        prg_ram: (w / 0x8000 % 128) as usize,
+        battery_ext: (w / 0x4000 % 2) as usize,
+        chr: (w / 32 % 512) as usize,
+        chr_writable: w / 16 % 2 == 1,
+        ciram: (w / 2 % 8) as usize,
+    };
+    Memory {
+        layout: layout,
+        battery_ext_len: (w % 2 * 128) as usize,
+        prg_pages: prg,
+        chr_pages: chr,
+    }
+}
+
+// A refused read.
+fn refused(number: u8) -> ReadImage
+    ensures { λ r. ⌜ r ≡ record { refusal = number; state = noState } ⌝ }
+{
+    let none = no_state();
+    ReadImage {
+        refusal: number,
+        state: none,
+    }
+}
+
+// The state of an image of 307 bytes, given the board's words and the bits of `out`.
+fn read_state(img: &[u8], h: Head, bits: u32) -> State
+    requires { ⌜ (length (now img) ≡ imageBytes) × HeadFits h × (bits ≤ 0x456F1000) ⌝ }
+    ensures { λ r. ⌜ r ≡ record { chip = chipOf h (soundAt (now (img .entry)) bits); memory = memoryAt (now (img .entry)) } ⌝ }
+{
+    let audio = read_sound(img, bits);
+    let chip = chip_of(h, audio);
+    let m = read_memory(img);
+    State {
+        chip: chip,
+        memory: m,
+    }
+}
+
+// Reads an image. It answers the refusal number, and the state where it is accepted.
+pub fn read_image(img: &[u8]) -> ReadImage
+    ensures { λ r. ⌜ r ≡ readImage (now (img .entry)) ⌝ }
+{
+    if img.len() != 307 {
+        return refused(1);
+    }
+    let bits = load(img, 165, 4, 0);
+    let h = read_head(img);
+    if 0x456F_1000 < bits {
+        return refused(2);
+    }
+    if 4 < h.kind / 2 % 8 {
+        return refused(2);
+    }
+    let s = read_state(img, h, bits as u32);
+    if in_range(s) {
+        return ReadImage {
+            refusal: 0,
+            state: s,
+        };
+    }
+    refused(2)
+}
