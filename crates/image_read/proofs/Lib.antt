@@ -1,6 +1,9 @@
--- The laws of reading, and the proofs of src/.
+-- RoundTrip has the promises. The other files are the laws that they and the proofs of src/ rest on.
 pub mod Fields
 pub mod Sections
 pub mod Pages
 pub mod Out
 pub mod Accepted
+pub mod Values
+pub mod States
+pub mod RoundTrip

@@ -1,0 +1,98 @@
+-- The image's promises: "Reading what a state in range was written to gives that state, and writing what an accepted image was read to gives the same 307
+-- bytes", and an image is accepted exactly where it has 307 bytes and its fields are in range.
+use mathlib.Core.Path.{_≡_, refl, sym, ap, ap₂, _∙_}
+use mathlib.Core.Bool.{Bool, true, false, _&&_}
+use mathlib.Core.List.{List}
+use Prim.Native.Nat.{ℕ}
+use native.Mathlib.Omega.{arith}
+use borrow.Author.Tests.{eqb-true, leb-true, le-leb}
+use lib.Dec.{eqb, leb}
+use lib.ListN.{length, getD}
+use Rattle.bits.specs.Fields.{pack, Fit}
+use Rattle.bits.specs.Words.{wordOf, bytesOf}
+use Rattle.bits.proofs.Fields.{fit-unpack}
+use Rattle.bits.proofs.RoundTrip.{fields-back, bytes-back}
+use Rattle.bits.proofs.words.Laws.{length-bytes}
+use Rattle.state.specs.declared.State.{State}
+use Rattle.state.specs.State.{inRange}
+use Rattle.state.proofs.Every.{and-left, and-right, was-true}
+use Rattle.namco163.specs.Refusals.{firstOf}
+use Rattle.namco163.proofs.refusals.Laws.{accepted-none}
+use Rattle.image.specs.Image.{imageBytes, part, partWidths, partFields, widths, fields, imageOf}
+use Rattle.image.proofs.Whole.{total-widths}
+use Rattle.image_read.specs.Reading.{cutInto, stateOf, fieldsOk, fieldsOf, readChecks, readImage}
+use Rattle.image_read.specs.Typed.{Bytes, Typed}
+use Rattle.image_read.proofs.Accepted.{accepted}
+use Rattle.image_read.proofs.Sections.{cut-joined}
+use Rattle.image_read.proofs.States.{fit-joined, same-lengths, state-back, state-fits, fields-num}
+use Rattle.image_read.proofs.Values.{mirroring-most}
+
+-- ---- what is accepted
+
+refusal-is : (img : List ℕ) → readImage img .refusal ≡ firstOf (readChecks img)
+unfolding readImage
+refusal-is img = go (eqb (firstOf (readChecks img)) 0) refl
+  where
+    go : (t : Bool) → eqb (firstOf (readChecks img)) 0 ≡ t → readImage img .refusal ≡ firstOf (readChecks img)
+    go true e = rw e (sym (eqb-true (firstOf (readChecks img)) 0 e))
+    go false e = rw e
+
+-- an accepted image has 307 bytes and fields in range
+pub accepted-in-range : (img : List ℕ) → readImage img .refusal ≡ 0 → (length img ≡ imageBytes) × (fieldsOk (fieldsOf img) ≡ true)
+accepted-in-range img e =
+    let h = accepted-none (readChecks img) (omega arith, (omega arith, tt)) (sym (refusal-is img) ∙ e) in
+    (eqb-true (length img) imageBytes (was-true (eqb (length img) imageBytes) (h .0)), was-true (fieldsOk (fieldsOf img)) (h .1 .0))
+
+-- and such an image is accepted
+pub in-range-accepted : (img : List ℕ) → length img ≡ imageBytes → fieldsOk (fieldsOf img) ≡ true → readImage img .refusal ≡ 0
+in-range-accepted img l e = ap (λ r. r .refusal) (accepted img l e)
+
+-- ---- a state, its image, and that state again
+
+module _ (s : State) (t : Typed s) (e : inRange s ≡ true) where
+  fits : Fit widths (fields s)
+  unfolding widths fields
+  fits = fit-joined partWidths (partFields s) (state-fits s t e)
+
+  fields-are : fieldsOf (imageOf s) ≡ fields s
+  unfolding fieldsOf imageOf
+  fields-are = fields-back widths 307 total-widths (fields s) fits
+
+  cut : cutInto partWidths (fields s) ≡ partFields s
+  unfolding fields
+  cut = cut-joined partWidths (partFields s) (same-lengths partWidths (partFields s) (state-fits s t e))
+
+  state : stateOf (fieldsOf (imageOf s)) ≡ s
+  unfolding stateOf
+  state = ap stateOf fields-are ∙ rw cut (state-back s t e)
+
+  ok : fieldsOk (fieldsOf (imageOf s)) ≡ true
+  unfolding fieldsOk
+  ok =
+      ap₂ (λ (p : List (List ℕ)) (x : State). leb (getD (part p 1) 1 0) 4 && inRange x) (ap (cutInto partWidths) fields-are ∙ cut) state
+      ∙ rw (le-leb _ 4 (mirroring-most (s .chip .mirroring)), e)
+
+  long : length (imageOf s) ≡ imageBytes
+  unfolding imageOf
+  long = length-bytes 307 (pack widths (fields s))
+
+  -- reading what a state in range was written to gives that state
+  pub read-written : readImage (imageOf s) ≡ record { refusal = 0; state = s }
+  read-written = accepted (imageOf s) long ok ∙ (λ i. record { refusal = 0; state = state i })
+
+-- ---- an accepted image, its state, and that image again
+
+again : (img : List ℕ) → Bytes img → length img ≡ imageBytes → fieldsOk (fieldsOf img) ≡ true → imageOf (stateOf (fieldsOf img)) ≡ img
+unfolding imageOf fieldsOk fieldsOf
+again img b l e =
+    let vs = fieldsOf img in
+    let m = leb (getD (part (cutInto partWidths vs) 1) 1 0) 4 in
+    ap (λ (x : List ℕ). bytesOf 307 (pack widths x))
+    (fields-num vs (fit-unpack widths (wordOf img)) (and-right m _ e) (leb-true _ 4 (and-left m _ e)))
+    ∙ bytes-back widths 307 total-widths img l b
+
+-- writing what an accepted image was read to gives the same 307 bytes
+pub written-read : (img : List ℕ) → Bytes img → readImage img .refusal ≡ 0 → imageOf (readImage img .state) ≡ img
+written-read img b e =
+    let h = accepted-in-range img e in
+    ap (λ r. imageOf (r .state)) (accepted img (h .0) (h .1)) ∙ again img b (h .0) (h .1)
