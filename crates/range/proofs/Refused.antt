@@ -10,6 +10,7 @@ use lib.ListN.{length}
 use Rattle.memory.specs.declared.layout.MemoryLayout.{MemoryLayout}
 use Rattle.memory.specs.declared.layout.Src.{Src}
 use Rattle.state.specs.declared.State.{State}
+use Rattle.state.specs.State.{chipOk, inRange}
 use Rattle.namco163.specs.declared.battery.Altered.{Altered}
 use Rattle.namco163.specs.declared.calls.ByteRead.{ByteRead}
 use Rattle.namco163.specs.declared.calls.Peeked.{Peeked}
@@ -75,6 +76,11 @@ unfolding restoreState
 restore-number s arena = number (λ (x : Altered). x .refusal) (firstOf (batteryChecks s (length arena))) _ _ refl refl
 
 -- ---- the state that was given, 0 in each other field, and the arena as it was
+
+-- a refused load's state is out of range, so that going on with it meets refusal 2
+pub no-state-out : inRange noState ≡ false
+unfolding inRange chipOk noState
+no-state-out = refl
 
 pub load-refused : (mapper sub flags : ℕ) (known : Bool) (sizes : MemoryLayout) (arena : List ℕ) → Refused (loadChecks mapper sizes (length arena))
     → (loadAnswer mapper sub flags known sizes (length arena) .state ≡ noState) × (loadArena mapper sizes arena ≡ arena)
