@@ -1,11 +1,11 @@
 // Lines of the input: bytes are collected until a line ends, and then it is answered.
 ghost use Prim.Native.Nat.{_≤_};
 ghost use lib.ListN.{length};
-use crate::line::answer;
-use crate::player::Player;
-use crate::player::within;
 use libc::STDIN_FILENO;
 use libc::STDOUT_FILENO;
+use player::line::answer;
+use player::player::Player;
+use player::player::within;
 use text::out::put_all;
 
 // Where the next line feed stands, or the chunk's end.

@@ -7,8 +7,8 @@ use denote.Ref.{now}
 use borrow.Author.Needs.{needs}
 use native.Mathlib.Omega.{arith}
 use Rattle.memory.proofs.Laws.Layout.{layout-good}
-use Rattle.replay.proofs.calls.arena_len.Statement.{statement}
-use Rattle.replay.proofs.calls.arena_len.Tie as tie
+use Rattle.player.proofs.calls.arena_len.Statement.{statement}
+use Rattle.player.proofs.calls.arena_len.Tie as tie
 
 within-limits-requires : tie.Need-within-limits-requires
 within-limits-requires c κs = search needs

@@ -6,8 +6,8 @@ use lib.Seq.{length-take-le, take-length}
 use denote.Ref.{now}
 use borrow.Author.Needs.{needs}
 use native.Mathlib.Omega.{arith}
-use Rattle.replay.proofs.calls.run_within.Statement.{statement}
-use Rattle.replay.proofs.calls.run_within.Tie as tie
+use Rattle.player.proofs.calls.run_within.Statement.{statement}
+use Rattle.player.proofs.calls.run_within.Tie as tie
 
 run-requires : tie.Need-run-requires
 run-requires c κs = search needs

@@ -2,8 +2,8 @@
 use Rattle.state.proofs.AudioRange.{number}
 use native.Mathlib.Omega.{arith}
 use borrow.Author.Needs.{needs}
-use Rattle.replay.proofs.answers.bits.Statement.{statement}
-use Rattle.replay.proofs.answers.bits.Tie as tie
+use Rattle.answer_lines.proofs.answers.bits.Statement.{statement}
+use Rattle.answer_lines.proofs.answers.bits.Tie as tie
 
 returns : tie.Need-returns
 returns c = search needs

@@ -6,8 +6,8 @@ use lib.Seq.{length-take-le, take-length}
 use denote.Ref.{now}
 use borrow.Author.Needs.{needs}
 use native.Mathlib.Omega.{arith}
-use Rattle.replay.proofs.answers.samples.Statement.{statement}
-use Rattle.replay.proofs.answers.samples.Tie as tie
+use Rattle.answer_lines.proofs.answers.samples.Statement.{statement}
+use Rattle.answer_lines.proofs.answers.samples.Tie as tie
 
 abbrev Inv-loop : tie.InvT-loop
 Inv-loop out₀ at count made end₀ i₀ out end i = (i ≤ length made) × (length out ≡ length out₀)

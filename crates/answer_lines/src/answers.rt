@@ -120,3 +120,23 @@ pub fn arena(out: &mut [u8], at: usize, bytes: &[u8]) -> usize {
     let d = put_hex32(out, c, adler32(bytes));
     end_line(out, d)
 }
+
+fn digits(out: &mut [u8], at: usize, bytes: &[u8]) -> usize {
+    let mut end = at;
+    let mut i: usize = 0;
+    while i < bytes.len() {
+        end = put_hex8(out, end, bytes[i]);
+        i += 1;
+    }
+    end
+}
+
+// An image's bytes, two digits each.
+pub fn image(out: &mut [u8], at: usize, refusal: u8, bytes: &[u8]) -> usize {
+    if refusal != 0 {
+        return refused(out, at, refusal);
+    }
+    let a = put_all(out, at, b"ok ");
+    let b = digits(out, a, bytes);
+    end_line(out, b)
+}

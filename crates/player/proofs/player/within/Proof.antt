@@ -6,8 +6,8 @@ use lib.Seq.{length-take-le, take-length}
 use denote.Ref.{now}
 use borrow.Author.Needs.{needs}
 use native.Mathlib.Omega.{arith}
-use Rattle.replay.proofs.player.within.Statement.{statement}
-use Rattle.replay.proofs.player.within.Tie as tie
+use Rattle.player.proofs.player.within.Statement.{statement}
+use Rattle.player.proofs.player.within.Tie as tie
 
 returns : tie.Need-returns
 returns c = (search needs, sym (length-take-le (c .before .args .n) (now (c .before .args .s)) (omega arith)))

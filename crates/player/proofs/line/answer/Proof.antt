@@ -6,8 +6,8 @@ use lib.Seq.{length-take-le, take-length}
 use denote.Ref.{now}
 use borrow.Author.Needs.{needs}
 use native.Mathlib.Omega.{arith}
-use Rattle.replay.proofs.line.answer.Statement.{statement}
-use Rattle.replay.proofs.line.answer.Tie as tie
+use Rattle.player.proofs.line.answer.Statement.{statement}
+use Rattle.player.proofs.line.answer.Tie as tie
 
 slice-aggregate-error : tie.Need-slice-aggregate-error
 slice-aggregate-error c = search needs

@@ -6,8 +6,8 @@ use lib.Seq.{length-take-le, take-length}
 use denote.Ref.{now}
 use borrow.Author.Needs.{needs}
 use native.Mathlib.Omega.{arith}
-use Rattle.replay.proofs.call.ten_numbers.Statement.{statement}
-use Rattle.replay.proofs.call.ten_numbers.Tie as tie
+use Rattle.call_lines.proofs.call.ten_numbers.Statement.{statement}
+use Rattle.call_lines.proofs.call.ten_numbers.Tie as tie
 
 abbrev Inv-loop : tie.InvT-loop
 Inv-loop line n₀ i₀ n i = (i ≤ 10) × (length n ≡ 10)

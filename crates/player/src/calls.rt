@@ -1,10 +1,11 @@
 // Each call on the cartridge, and its answer.
-use crate::answers;
-use crate::call::Call;
-use crate::call::Cartridge;
 use crate::player::Player;
 use crate::player::within;
+use answer_lines::answers;
+use call_lines::call::Call;
+use call_lines::call::Cartridge;
 use clocks::run::Ran;
+use image::writing::write_image;
 use memory::layout::Layout;
 use memory::layout::MemoryLayout;
 use memory::layout::Src;
@@ -189,10 +190,12 @@ fn restore_battery(mut p: Player, arena: &[u8], out: &mut [u8]) -> Player {
     p
 }
 
-// The image's crate is not there yet: image::write_image(s, &mut img) of 307 bytes goes here, and answers::image for its digits.
 fn image(mut p: Player, out: &mut [u8]) -> Player {
+    let s = p.state;
     let at = p.out_len;
-    p.out_len = answers::error(out, at, b"image writing is not there yet");
+    let mut img = [0u8; 307];
+    let refusal = write_image(s, &mut img);
+    p.out_len = answers::image(out, at, refusal, &img);
     p
 }
 

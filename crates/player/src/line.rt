@@ -1,13 +1,13 @@
 // The answer to a line.
-use crate::answers;
-use crate::call::Call;
-use crate::call::parse_call;
 use crate::calls;
-use crate::name::Name;
-use crate::name::name_of;
-use crate::name::put_usage;
 use crate::player::Player;
 use crate::player::within;
+use answer_lines::answers;
+use call_lines::call::Call;
+use call_lines::call::parse_call;
+use call_lines::name::Name;
+use call_lines::name::name_of;
+use call_lines::name::put_usage;
 use text::out::put_all;
 use text::words::word;
 

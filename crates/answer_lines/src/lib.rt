@@ -1,0 +1,3 @@
+// Answers as lines of a text.
+
+pub mod answers; // answers.rt: the pieces of an answer line

@@ -1,0 +1,26 @@
+// Replays a list of calls from standard input, one a line, and writes an answer line for each.
+use player::player::Player;
+
+mod input; // input.rt: lines of the input
+
+// Lends the arrays as slices.
+fn play(
+    line: &mut [u8; 1_048_701],
+    bytes: &mut [u8; 524_350],
+    arena: &mut [u8; 858_112],
+    out: &mut [u8; 262_144],
+) {
+    input::play(Player::new(), line, bytes, arena, out);
+}
+
+fn main() {
+    // The longest line, and one byte that tells a longer one.
+    let mut line = [0u8; 1_048_701];
+    // The bytes that a `fill` of the longest line names.
+    let mut bytes = [0u8; 524_350];
+    // The largest layout: 838 pages.
+    let mut arena = [0u8; 858_112];
+    // More than twice the longest answer, that of a run.
+    let mut out = [0u8; 262_144];
+    play(&mut line, &mut bytes, &mut arena, &mut out);
+}
