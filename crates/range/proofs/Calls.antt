@@ -1,5 +1,5 @@
 -- Between calls state and arena belong together: a fresh load is in range, and every accepted call keeps the state in range and the arena's length. The run is
--- apart. Assumes nothing; what a call is lent has the types of its arguments.
+-- in proofs/Runs.antt. Assumes nothing; what a call is lent has the types of its arguments.
 use Prim.Native.Nat.{ℕ, zero, suc, _+_, _/_, _%_, _^_, _≤_, _<_}
 use mathlib.Core.Path.{_≡_, refl, _∙_}
 use mathlib.Core.Bool.{Bool, true, false, cond}
@@ -76,6 +76,12 @@ pub fit-after : (s t : State) (arena after : List ℕ) → Fit s arena → Kept 
 fit-after s t arena after f k a =
     record { range = k .range; long = rw (k .layout) (a .long ∙ f .long); typed = k .typed; bytes = a .bytes }
 
+pub kept-self : (s : State) → Typed s → inRange s ≡ true → Kept s s
+kept-self s y e = record { range = e; layout = refl; typed = y }
+
+pub kept-both : (s t u : State) → Kept s t → Kept t u → Kept s u
+kept-both s t u p q = record { range = q .range; layout = q .layout ∙ p .layout; typed = q .typed }
+
 -- ---- a state by its chip and its memory
 
 -- mapping anew, or not
@@ -83,7 +89,7 @@ pub record MemoryStays (m k : Memory) : Type 0 where
   pub ranged : Ranged m → Ranged k
   pub kept : MemoryKept m k
 
-stays : (m : Memory) → MemoryStays m m
+pub stays : (m : Memory) → MemoryStays m m
 stays m = record { ranged = λ r. r; kept = record { layout = refl; used = refl; low = λ i h. refl; lengths = λ q. q } }
 
 mapped : (n : Namco163) (m : Memory) → MemoryStays m (updateBanks n m)
@@ -92,7 +98,7 @@ mapped n m = record { ranged = update-banks-ranged n m; kept = update-banks-kept
 memory-range : (m k : Memory) → MemoryStays m k → MemoryInRange m → MemoryInRange k
 memory-range m k q h = record { ranged = q .ranged (h .ranged); used = rw (q .kept .used, q .kept .layout) (h .used) }
 
-state-kept : (s t : State) → Keeps (s .chip) (t .chip) → MemoryStays (s .memory) (t .memory) → Typed s → inRange s ≡ true → Kept s t
+pub state-kept : (s t : State) → Keeps (s .chip) (t .chip) → MemoryStays (s .memory) (t .memory) → Typed s → inRange s ≡ true → Kept s t
 state-kept s t k q y e =
     let f = state-in s y e in
     let sound = k .sound (f .chip .audio) in

@@ -23,7 +23,7 @@ pub record Decided (cs : List Check) : Type 0 where
 
 -- ---- numbers that rise
 
-abbrev Rising : ℕ → List Check → Type 0
+abbrev pub Rising : ℕ → List Check → Type 0
 Rising k [] = Unit
 Rising k (c ∷ cs) = (k < c .number) × Rising (c .number) cs
 
@@ -63,7 +63,7 @@ first-is k (b ∷ before) after c r e = go (b .holds) refl (first-is (b .number)
     go true q ih e = absurd (omega (arith, rising-later (b .number) before after c (r .1), e))
     go false q ih e = let h = ih e in ((q, h .0), h .1)
 
-decided : (cs : List Check) → Rising 0 cs → Decided cs
+pub decided : (cs : List Check) → Rising 0 cs → Decided cs
 decided cs r =
     record {
       accepted = (accepted-none cs (rising-numbered 0 cs r), none-accepted cs);

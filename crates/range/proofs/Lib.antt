@@ -5,5 +5,7 @@ pub mod State
 pub mod Decided
 pub mod Refused
 pub mod Calls
+pub mod Runs
 pub mod Types
+pub mod Images
 pub mod Numbers
