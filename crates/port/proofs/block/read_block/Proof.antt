@@ -1,0 +1,60 @@
+-- `read_block` meets its contract: after i turns, i of the reads are made.
+use Prim.Native.Nat.{_-_}
+use mathlib.Core.Path.{refl, ap}
+use native.Mathlib.Omega.{arith}
+use borrow.Author.Needs.{needs}
+use lib.ListN.{length}
+use Rattle.port.specs.declared.lent.Port.{Port}
+use Rattle.port.proofs.block.Laws.{Midway, midway-0, midway-more, midway-end}
+use Rattle.port.proofs.block.read_block.Statement.{statement}
+use Rattle.port.proofs.block.read_block.Tie as tie
+
+abbrev Inv-loop : tie.InvT-loop
+Inv-loop addr auto-increment out₀ p₀ i₀ out p i = Midway (length out₀) p₀ i out p
+
+abbrev μ-loop : tie.MeasureT-loop
+μ-loop addr auto-increment out₀ p₀ i₀ out p i = length out₀ - i
+
+loop-holds : tie.Need-loop-holds Inv-loop μ-loop
+loop-holds c = midway-0 _ _ (c .before .args .out .now) refl
+
+read-of-requires : tie.Need-read-of-requires Inv-loop μ-loop
+read-of-requires c κs = search needs
+
+slice-write-out : tie.Need-slice-write-out Inv-loop μ-loop
+slice-write-out c = omega arith
+
+add-i : tie.Need-add-i Inv-loop μ-loop
+add-i c = omega arith
+
+loop-less : tie.Need-loop-less Inv-loop μ-loop
+loop-less c = omega arith
+
+loop-again : tie.Need-loop-again Inv-loop μ-loop
+loop-again c =
+    let l = c .before .before .before .loop in
+    rw (c .before .read-of .ensures) (midway-more _ _ (l .i) (l .out) (l .p) (omega arith) (l .inv))
+
+same-length : tie.Need-same-length Inv-loop μ-loop
+same-length c = omega arith
+
+returns : tie.Need-returns Inv-loop μ-loop
+returns c =
+    let l = c .before .loop in
+    let e = midway-end _ _ (l .i) (l .out) (l .p) (omega arith) (l .inv) in
+    (e .0, ap (λ (p : Port). p .addr) (e .1))
+
+pub read-block-spec : {M : Type 1} → statement M
+read-block-spec =
+    tie.close
+    (tie.spec
+    Inv-loop
+    μ-loop
+    loop-holds
+    read-of-requires
+    slice-write-out
+    add-i
+    loop-less
+    loop-again
+    same-length
+    returns)

@@ -1,0 +1,23 @@
+-- `step` meets its contract. The two answers are compared by the flag that the branch tests.
+use borrow.Author.Needs.{needs}
+use Rattle.port.specs.Lent.{byteOf, afterRead}
+use Rattle.port.proofs.lent.Laws.{stays}
+use Rattle.port.proofs.lent.step.Statement.{statement}
+use Rattle.port.proofs.lent.step.Tie as tie
+
+element-copy-out-byte : tie.Need-element-copy-out-byte
+element-copy-out-byte c = search needs
+
+add-moved : tie.Need-add-moved
+add-moved c = search needs
+
+returns : tie.Need-returns
+unfolding afterRead
+returns c = simp (c .if1 .taken)
+
+returns-2 : tie.Need-returns-2
+returns-2 c =
+    λ i. record { byte = byteOf (c .before .before .args .t1); port = stays (c .before .before .args .t1) (c .if1 .left) i }
+
+pub step-spec : {M : Type 1} → statement M
+step-spec = tie.close (tie.spec element-copy-out-byte add-moved returns returns-2)
