@@ -38,7 +38,7 @@ unfolding readOf
 as-register a x l h r = λ i. record { byte = same-byte a x l h r i; audio = same-audio a r i }
 
 -- a read leaves an address in range
-stays-in-range : (a : Audio) → a .addr < 128 → readOf a 0x4800 .audio .addr < 128
+pub stays-in-range : (a : Audio) → a .addr < 128 → readOf a 0x4800 .audio .addr < 128
 unfolding readOf advanced
 stays-in-range a r = go (a .«auto_increment»)
   where

@@ -1,0 +1,72 @@
+-- `agreeing` meets its contract: what is counted and what is still to be counted make the whole count.
+use Prim.Native.Nat.{_+_, _-_, _≤_, _<_}
+use mathlib.Core.Path.{_≡_}
+use native.Mathlib.Nat.{zero-add}
+use lib.ListN.{length, drop}
+use Rattle.port.proofs.Register.{stays-in-range}
+use Rattle.port_run.specs.Agree.{agree}
+use Rattle.port_run.proofs.Laws.{agree-more, agree-end}
+use borrow.Author.Needs.{needs}
+use native.Mathlib.Omega.{arith}
+use Rattle.port_run.proofs.agreeing.Statement.{statement}
+use Rattle.port_run.proofs.agreeing.Tie as tie
+
+abbrev Inv-loop : tie.InvT-loop
+Inv-loop bytes a₀ same₀ i₀ a same i =
+    (i ≤ length bytes) × (same ≤ i) × (a .addr < 128) × (same + agree (drop i bytes) a ≡ agree bytes a₀)
+
+abbrev μ-loop : tie.MeasureT-loop
+μ-loop bytes a₀ same₀ i₀ a same i = length bytes - i
+
+loop-holds : tie.Need-loop-holds Inv-loop μ-loop
+loop-holds c = (omega arith, omega arith, c .before .pre, zero-add _)
+
+read-register-requires : tie.Need-read-register-requires Inv-loop μ-loop
+read-register-requires c κs = search needs
+
+shared-slice-read-equal : tie.Need-shared-slice-read-equal Inv-loop μ-loop
+shared-slice-read-equal c = search needs
+
+equal-requires : tie.Need-equal-requires Inv-loop μ-loop
+equal-requires c κs = search needs
+
+add-same : tie.Need-add-same Inv-loop μ-loop
+add-same c = search needs
+
+add-i : tie.Need-add-i Inv-loop μ-loop
+add-i c = search needs
+
+loop-less : tie.Need-loop-less Inv-loop μ-loop
+loop-less c = search needs
+
+loop-again : tie.Need-loop-again Inv-loop μ-loop
+loop-again c =
+    let l = c .before .before .before .before .before .loop in
+    let r = c .before .before .before .read-register in
+    let bytes = c .before .before .before .before .before .before .before .args .bytes .now in (
+      omega arith,
+      omega (arith, c .before .equal .ensures .1),
+      rw (r .ensures) (stays-in-range (l .a) (l .inv .2)),
+      agree-more bytes (l .a) (l .i) (l .same) (c .before .equal .result) _ (r .result) (omega arith) (r .ensures) (c .before .equal .ensures .0) (l .inv .3),
+    )
+
+returns : tie.Need-returns Inv-loop μ-loop
+returns c =
+    let l = c .before .loop in
+    omega (arith, l .inv .3, agree-end (c .before .before .before .args .bytes .now) (l .a) (l .i) (omega arith))
+
+pub agreeing-spec : {M : Type 1} → statement M
+agreeing-spec =
+    tie.close
+    (tie.spec
+    Inv-loop
+    μ-loop
+    loop-holds
+    read-register-requires
+    shared-slice-read-equal
+    equal-requires
+    add-same
+    add-i
+    loop-less
+    loop-again
+    returns)
