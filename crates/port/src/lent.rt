@@ -17,17 +17,17 @@ pub struct PortRead {
 }
 
 // The address register has seven bits, so an address of 128 or more counts by its remainder.
-pub fn step(p: Port) -> PortRead
-    ensures { λ r. ⌜ r ≡ stepOf p ⌝ }
+pub fn step(port: Port) -> PortRead
+    ensures { λ r. ⌜ r ≡ stepOf port ⌝ }
 {
-    let at = p.addr % Audio::RAM_SIZE;
-    let byte = p.ram[at];
-    let mut moved = p;
+    let at = port.addr % Audio::RAM_SIZE;
+    let byte = port.ram[at];
+    let mut moved = port;
     moved.addr = (at + 1) % Audio::RAM_SIZE;
-    if p.auto_increment {
+    if port.auto_increment {
         return PortRead { byte, port: moved };
     }
-    PortRead { byte, port: p }
+    PortRead { byte, port }
 }
 
 pub fn read(port: &mut Port) -> u8
