@@ -59,4 +59,5 @@ block-as-registers zero a r = (refl, refl)
 block-as-registers (suc n) a r =
     let b = ap (λ (s : SoundRead). s .byte) (as-register a 0x4800 (omega arith) (omega arith) r) in
     let next = block-as-registers n (readOf a 0x4800 .audio) (stays-in-range a r) in
-    (rw (b, port-after a r, next .0) refl, rw (port-after a r) (next .1))
+    let after = port-after a r in
+    (λ i. sym b i ∷ (ap (reads n) after ∙ next .0) i, ap (afterReads n) after ∙ next .1)

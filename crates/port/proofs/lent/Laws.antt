@@ -19,6 +19,14 @@ pub goes-to-0 : (p : Port) → p .«auto_increment» ≡ true → p .addr ≡ 12
 unfolding afterRead
 goes-to-0 p on last = rw on (omega arith)
 
+-- an address of 128 or more reads the byte at its remainder, and an address that moved is in range
+pub byte-past : (p : Port) (k : ℕ) → p .addr ≡ 128 + k → k < 128 → byteOf p ≡ getD (p .ram) k 0
+byte-past p k e h = ap (λ (n : ℕ). getD (p .ram) n 0) (omega arith)
+
+pub moved-in-range : (p : Port) → p .«auto_increment» ≡ true → afterRead p .addr < 128
+unfolding afterRead
+moved-in-range p on = rw on (omega arith)
+
 -- with auto-increment clear nothing changes, whatever the address
 address-stays : (p : Port) → p .«auto_increment» ≡ false → afterRead p .addr ≡ p .addr
 unfolding afterRead

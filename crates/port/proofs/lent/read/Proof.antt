@@ -1,5 +1,5 @@
--- `port::read` meets its contract: a walk of its MIR, by hand. The borrow is opened, the port is copied out and passed to `step`, of which only the contract is known, the port that comes back is stored whole, and the borrow is closed at it.
--- Assumes nothing.
+-- `read` meets its contract: a walk of its code, by hand. The loan is opened, the port is copied out and passed to `step`, of which
+-- only the contract is known, the port that comes back is stored whole, and the loan is closed at it.
 use mathlib.Core.Path.{_≡_, refl, ap}
 use Prim.Native.Nat.{ℕ, _<_, _^_}
 use mathlib.Core.List.{[], _∷_, List}
@@ -107,7 +107,7 @@ module _ {M : Type 1} (𝓤 : URA M) (H : Heap 𝓤) (A : Atoms 𝓤) (W : Given
     walk =
         qed W ((‵ (flft κ q) ⊛ ‵ ftrue) ∷ ‵ (owns (MutRef (named 0) κ T.the-row ∷ []) x at) ∷ []) ∵ enter ! C Λ code.function (vptr b o ∷ []) _ $
         alloc1 ! (λ l₀. alloc1 ! (λ l₁. alloc1 ! (λ l₂. alloc1 ! (λ l₃. alloc0 ! $ params1 ! $ pass1 ! (init ! 4 refl (tt, tt)) $ pass0 ! $
-        -- the borrow is opened
+        -- the loan is opened
         move ! (9 ∷ []) $ fsplit ! $ fsplit3 ! $ drop ! $ move ! (11 ∷ []) $ split ! $ move ! (2 ∷ 3 ∷ 0 ∷ []) $
         opens ! tt T.the-row {h = h} b o (λ vs. spelt ! T.the-row (Is T.the-row) (shows 𝓤 H A T.the-row) (LL.vals T.the-type T′.the-laws) (LL.tells T.the-type T′.the-laws) fullShare h vs b o $
         use1 W (‵ (fat fullShare T′.mir b o (port-val h))) (W .laws .raw-at fullShare T′.mir b o (port-val h)) $
@@ -124,7 +124,7 @@ module _ {M : Type 1} (𝓤 : URA M) (H : Heap 𝓤) (A : Atoms 𝓤) (W : Given
         rewrite ! 10 (λ (u : Val). ‵ (fat fullShare S′.mir l₂ 0 u)) (ap only (LL.tells S.the-type S′.the-laws r _ is)) refl $
         assigns ! (of-opd ! (load ! (from ! (fld ! refl (stop !))) (look-in ! 10 (sub ! 1 refl (whole !))))) (from ! (hop ! (look ! 12 refl) (stop !))) (store ! 1 refl (LL.lawful T.the-type T′.the-laws 𝓤 H A W .typed (r .port) _ (port-is r v is) .0)) $
         assigns ! (of-opd ! (load ! (from ! (fld ! refl (stop !))) (look-in ! 10 (sub ! 0 refl (whole !))))) (from ! (stop !)) (init ! 14 refl (tt, record { fits = byte-fits r v is })) $
-        -- the borrow is closed at the port that came back
+        -- the loan is closed at the port that came back
         drop ! $ use1 W (‵ (cellAt fullShare (T.the-row .mir) (port-val (r .port) ∷ []) b o)) (W .laws .at-raw fullShare T′.mir b o (port-val (r .port))) $
         move ! (1 ∷ []) $ drop ! $ owned ! T.the-row (Is T.the-row) ((LL.makes T.the-type T′.the-plain) 𝓤 H A) (r .port) _ (port-is r v is) $ move ! (1 ∷ 0 ∷ []) $ closes ! tt T.the-row (r .port) (port-val (r .port) ∷ []) b o $
         returns ! (look ! 11 refl) $ forget ! 5 refl $ forget ! 7 refl $ forget ! 9 refl $ forget ! 11 refl $

@@ -1,5 +1,5 @@
--- `port::read_of` meets its contract: a walk of its MIR, by hand. The port is put in a local, which is lent to `read` for a lifetime of the call, of which only the contract is known, and comes back at the port that `read` leaves.
--- Assumes nothing.
+-- `read_of` meets its contract: a walk of its code, by hand. The port is put into a local, which is lent to `read` for a lifetime of the
+-- call; of `read` only the contract is known, and the local comes back at the port that `read` leaves.
 use mathlib.Core.Path.{_≡_, refl, ap}
 use Prim.Native.Nat.{ℕ}
 use mathlib.Core.List.{[], _∷_, List}
