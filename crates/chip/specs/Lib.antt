@@ -3,6 +3,5 @@ pub mod Namco163
 pub mod Reset
 pub mod Load
 pub mod Detection
-pub mod Writes
 pub mod Reads
 pub mod Clock

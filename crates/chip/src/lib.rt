@@ -5,4 +5,3 @@ pub mod load; // load.rt: the registers of a fresh board
 pub mod namco163; // namco163.rt: the fields, as the Rust has them
 pub mod reads; // reads.rt: what the board itself answers to a CPU read
 pub mod reset; // reset.rt: soft and hard
-pub mod writes; // writes.rt: register writes, a function for each range of addresses

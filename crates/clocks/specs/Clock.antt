@@ -14,7 +14,7 @@ use Rattle.chip.specs.declared.namco163.Namco163.{Namco163}
 use Rattle.chip.specs.Namco163.{is163, withRegs, withAudio}
 use Rattle.chip.specs.Clock.{clockCounter}
 use Rattle.state.specs.declared.State.{State}
-use Rattle.namco163.specs.Calls.{withChip}
+use Rattle.state.specs.State.{withChip}
 
 -- "at 15 it goes to 0, the current channel makes its update .. and `output` is one sample": the sample of one sound clock
 unfoldable pub soundSample : Audio → Option Float

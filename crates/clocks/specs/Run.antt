@@ -8,7 +8,7 @@ use Rattle.cut.specs.Calls.{RunGave, Point, start}
 use Rattle.cut.specs.Machine.{ticks}
 use Rattle.cut.specs.Contract.{runBy}
 use Rattle.state.specs.declared.State.{State}
-use Rattle.namco163.specs.Refusals.{Check, firstOf, stateCheck}
+use Rattle.refusals.specs.Refusals.{Check, firstOf, stateCheck}
 use Rattle.clocks.specs.declared.run.Ran.{Ran}
 use Rattle.clocks.specs.Clock.{stateClock}
 

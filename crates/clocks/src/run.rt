@@ -11,7 +11,7 @@ ghost use mathlib.Core.List.{_++_};
 ghost use Prim.Native.Nat.{_≤_};
 ghost use lib.ListN.{length, drop};
 ghost use Rattle.sound.specs.Run.{soundRun, samplesOf};
-ghost use Rattle.namco163.specs.Refusals.{firstOf};
+ghost use Rattle.refusals.specs.Refusals.{firstOf};
 ghost use Rattle.state.specs.Audio.{audioOk};
 ghost use Rattle.state.specs.State.{inRange};
 ghost use Rattle.clocks.specs.Run.{made, runChecks, runGave, ranOf};

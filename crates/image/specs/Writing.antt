@@ -5,8 +5,7 @@ use mathlib.Core.List.{List, [], _∷_}
 use lib.Dec.{eqb}
 use lib.ListN.{length}
 use Rattle.state.specs.declared.State.{State}
-use Rattle.namco163.specs.Refusals.{Check, firstOf, stateCheck}
-use Rattle.namco163.specs.Calls.{ifAccepted}
+use Rattle.refusals.specs.Refusals.{Check, firstOf, ifAccepted, stateCheck}
 use Rattle.image.specs.Image.{imageBytes, imageOf}
 
 -- "1. An image, to read or to write, is not 307 bytes."

@@ -11,8 +11,8 @@ use Rattle.bits.specs.Fields.{total, unpack}
 use Rattle.bits.specs.Words.{wordOf}
 use Rattle.state.specs.declared.State.{State}
 use Rattle.state.specs.State.{inRange}
-use Rattle.namco163.specs.Refusals.{firstOf}
-use Rattle.namco163.specs.Load.{noState}
+use Rattle.refusals.specs.Refusals.{firstOf}
+use Rattle.cartridge.specs.Load.{noState}
 use Rattle.image.specs.Image.{imageBytes, part, joined, chipWidths}
 use Rattle.image.proofs.Ranges.{state-facts, sound-facts}
 use Rattle.image_read.specs.declared.Head.{Head}

@@ -16,8 +16,8 @@ use Rattle.bits.proofs.words.Laws.{length-bytes}
 use Rattle.state.specs.declared.State.{State}
 use Rattle.state.specs.State.{inRange}
 use Rattle.state.proofs.Every.{and-left, and-right, was-true}
-use Rattle.namco163.specs.Refusals.{firstOf}
-use Rattle.namco163.proofs.refusals.Laws.{accepted-none}
+use Rattle.refusals.specs.Refusals.{firstOf}
+use Rattle.refusals.proofs.Laws.{accepted-none}
 use Rattle.image.specs.Image.{imageBytes, part, partWidths, partFields, widths, fields, imageOf}
 use Rattle.image.proofs.Whole.{total-widths}
 use Rattle.image_read.specs.Reading.{cutInto, stateOf, fieldsOk, fieldsOf, readChecks, readImage}

@@ -20,9 +20,8 @@ use Rattle.chip.specs.declared.namco163.Namco163.{Namco163}
 use Rattle.chip.specs.declared.namco163.Regs.{Regs}
 use Rattle.state.specs.declared.State.{State}
 use Rattle.state.specs.State.{inRange}
-use Rattle.namco163.specs.Refusals.{Check, firstOf}
-use Rattle.namco163.specs.Calls.{ifAccepted}
-use Rattle.namco163.specs.Load.{noState}
+use Rattle.refusals.specs.Refusals.{Check, firstOf, ifAccepted}
+use Rattle.cartridge.specs.Load.{noState}
 use Rattle.image_read.specs.declared.ReadImage.{ReadImage}
 use Rattle.image_read.specs.declared.Head.{Head}
 use Rattle.image.specs.Image.{part, chipWidths, soundWidths, memoryWidths, partWidths, widths}

@@ -6,13 +6,15 @@ use Rattle.memory.specs.Windows.{banksOf, windowBase, regionPage, eachPage, sho
 use Rattle.memory.specs.Mirroring.{nametablePage, mirrorPages, setMirroring}
 use Rattle.memory.specs.New.{unmappedMemory, newMemory}
 use Rattle.chip.specs.Detection.{mayChange, maybeSetBoard}
-use Rattle.chip.specs.Writes.{writeSoundData, writeCounterLow, writeCounterHigh, writeWorkRam, setsCiram, writeSlot, writeNametable, writeC000, writeC800, mirroringOf, detectE000, highBitsE000, writeE000, writeE800, writeF000, writeF800, writeChip, remaps}
+use Rattle.chr_registers.specs.Slots.{setsCiram, writeSlot, writeNametable, writeC000, writeC800}
+use Rattle.prg_registers.specs.Banks.{mirroringOf, detectE000, highBitsE000, writeE000, writeE800, writeF000, writeF800}
+use Rattle.registers.specs.Writes.{writeSoundData, writeCounterLow, writeCounterHigh, writeWorkRam, writeChip, remaps}
 use Rattle.chip.specs.Load.{boardAtLoad, detectingAtLoad, mirroringAtLoad, chipAtLoad}
 use Rattle.chip.specs.Clock.{clockCounter}
 use Rattle.banking.specs.Banking.{mapSlot, mapSlots, mapChrTable, mapRom, mapWorkRam, updateBanks}
-use Rattle.namco163.specs.Refusals.{firstOf}
+use Rattle.refusals.specs.Refusals.{firstOf}
 use Rattle.namco163.specs.Calls.{writeRegister}
-use Rattle.namco163.specs.Load.{memoryAtLoad, freshState, noState, loadAnswer}
+use Rattle.cartridge.specs.Load.{memoryAtLoad, freshState, noState, loadAnswer}
 use Rattle.clocks.specs.Clock.{counterRun, counterRise}
 use Rattle.cut.specs.Counter.{moves, nextCounter, risesFrom}
 use Rattle.sound.specs.Channel.{nibbleAt, nextPhase, levelAt}

@@ -13,9 +13,9 @@ use Rattle.cut.specs.Machine.{tick, ticks, otherOf}
 use Rattle.cut.specs.Contract.{runBy, runOf, Keeps}
 use Rattle.memory.specs.declared.layout.Src.{Src}
 use Rattle.state.specs.declared.State.{State}
-use Rattle.namco163.specs.Refusals.{firstOf, stateChecks, resetChecks, arenaChecks, cpuChecks, fillChecks, batteryChecks}
+use Rattle.refusals.specs.Refusals.{firstOf, stateChecks, resetChecks, arenaChecks, cpuChecks, fillChecks, batteryChecks}
 use Rattle.namco163.specs.Calls.{cpuRead as cpuReadGives, cpuPeek as cpuPeekGives, cpuWrite as cpuWriteGives, cpuWriteArena, chrRead as chrReadGives, chrWriteArena, fillArena, regionRead, regionWriteArena, sramAnswer}
-use Rattle.namco163.specs.Battery.{resetState, syncArena, restoreState}
+use Rattle.battery.specs.Battery.{resetState, syncArena, restoreState}
 use Rattle.image.specs.Writing.{writeChecks, writeRefusal, writtenImage}
 use Rattle.clocks.specs.Clock.{stateClock}
 use Rattle.clocks.specs.Run.{runChecks, runGave}

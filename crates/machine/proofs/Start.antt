@@ -6,9 +6,9 @@ use lib.Dec.{eqb}
 use lib.ListN.{length}
 use Rattle.memory.specs.Layout.{layoutOf, arenaLen}
 use Rattle.state.proofs.Every.{was-true}
-use Rattle.namco163.specs.Load.{loadAnswer, loadArena}
-use Rattle.namco163.specs.Refusals.{loadChecks}
-use Rattle.namco163.proofs.refusals.Laws.{accepted-none}
+use Rattle.cartridge.specs.Load.{loadAnswer, loadArena}
+use Rattle.refusals.specs.Refusals.{loadChecks}
+use Rattle.refusals.proofs.Laws.{accepted-none}
 use Rattle.machine.specs.Start.{Loaded, loaded, zeroed}
 
 long : (l : Loaded) → length (l .arena) ≡ arenaLen (layoutOf (l .sizes))

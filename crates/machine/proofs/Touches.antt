@@ -16,9 +16,11 @@ use Rattle.chip.specs.declared.namco163.Namco163.{Namco163}
 use Rattle.chip.specs.Namco163.{is163, is175, is340, withBoard, withWritten}
 use Rattle.chip.specs.Detection.{mayChange, maybeSetBoard}
 use Rattle.chip.specs.Reads.{afterRead}
-use Rattle.chip.specs.Writes.{writeSoundData, writeWorkRam, writeSlot, writeNametable, writeC000, writeC800, detectE000, writeBank, highBitsE000, writeE000, writeE800, writeF000, writeF800, writeChip, bit6, bit7}
+use Rattle.chr_registers.specs.Slots.{writeSlot, writeNametable, writeC000, writeC800}
+use Rattle.prg_registers.specs.Banks.{detectE000, writeBank, highBitsE000, writeE000, writeE800, writeF000, writeF800, bit6, bit7}
+use Rattle.registers.specs.Writes.{writeSoundData, writeWorkRam, writeChip}
 use Rattle.namco163.specs.Calls.{writeRegister}
-use Rattle.namco163.specs.Refusals.{firstOf}
+use Rattle.refusals.specs.Refusals.{firstOf}
 use Rattle.machine.specs.Calls.{Held, Other, cpuRead, cpuPeek, cpuWrite, chrRead, chrWrite, fill, regionPeek, regionWrite, sram, reset, syncBattery, restoreBattery, writeImage, Answer}
 use Rattle.machine.specs.Paper.{checks, answers}
 use Rattle.machine.specs.Board.{otherGives, board}

@@ -5,9 +5,9 @@ use lib.Ieee.{Float}
 use lib.ListN.{length}
 use Rattle.cut.specs.Calls.{RunGave, Reply, refused, answered, Gave, Board}
 use Rattle.state.specs.declared.State.{State}
-use Rattle.namco163.specs.Refusals.{firstOf, arenaChecks, fillChecks, batteryChecks}
+use Rattle.refusals.specs.Refusals.{firstOf, arenaChecks, fillChecks, batteryChecks}
 use Rattle.namco163.specs.Calls.{cpuRead as cpuReadGives, cpuPeek as cpuPeekGives, cpuWrite as cpuWriteGives, cpuWriteArena, chrRead as chrReadGives, chrWriteArena, fillArena, regionRead, regionWriteArena, sramAnswer}
-use Rattle.namco163.specs.Battery.{resetState, syncArena, restoreState}
+use Rattle.battery.specs.Battery.{resetState, syncArena, restoreState}
 use Rattle.image.specs.Writing.{writeRefusal, writtenImage}
 use Rattle.clocks.specs.Run.{runGave}
 use Rattle.machine.specs.Calls.{Held, Other, cpuRead, cpuPeek, cpuWrite, chrRead, chrWrite, fill, regionPeek, regionWrite, sram, reset, syncBattery, restoreBattery, writeImage, Answer, byte, changed, span, image, done}

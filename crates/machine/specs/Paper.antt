@@ -13,9 +13,10 @@ use Rattle.chip.specs.Namco163.{withAudio}
 use Rattle.chip.specs.Reads.{afterRead}
 use Rattle.chip.specs.Reset.{resetChip}
 use Rattle.state.specs.declared.State.{State}
-use Rattle.namco163.specs.Refusals.{firstOf, Check, stateChecks, resetChecks, arenaChecks, cpuChecks, fillChecks, batteryChecks}
-use Rattle.namco163.specs.Calls.{withChip, cpuByte, writeRegister, changes}
-use Rattle.namco163.specs.Battery.{kindOf, batteryBytes}
+use Rattle.refusals.specs.Refusals.{firstOf, Check, stateChecks, resetChecks, arenaChecks, cpuChecks, fillChecks, batteryChecks}
+use Rattle.state.specs.State.{withChip}
+use Rattle.namco163.specs.Calls.{cpuByte, writeRegister, changes}
+use Rattle.battery.specs.Battery.{kindOf, batteryBytes}
 use Rattle.image.specs.Image.{imageOf}
 use Rattle.image.specs.Writing.{writeChecks}
 use Rattle.clocks.specs.Clock.{stateClock}

@@ -6,8 +6,8 @@ use mathlib.Core.List.{List}
 use lib.ListN.{length, replicate}
 use Rattle.memory.specs.declared.layout.MemoryLayout.{MemoryLayout}
 use Rattle.memory.specs.Layout.{layoutOf, arenaLen}
-use Rattle.namco163.specs.Load.{freshState, loadAnswer, loadArena}
-use Rattle.namco163.specs.Refusals.{firstOf, loadChecks}
+use Rattle.cartridge.specs.Load.{freshState, loadAnswer, loadArena}
+use Rattle.refusals.specs.Refusals.{firstOf, loadChecks}
 use Rattle.machine.specs.Calls.{Held}
 
 -- a load's arguments, and that it is accepted

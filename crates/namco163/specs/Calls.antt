@@ -1,32 +1,24 @@
--- The public calls but for load and the run: what each answers and alters, refused calls too. A refused call's other answer fields are 0, and its state is
+-- The public calls on bytes and registers: what each answers and alters, refused calls too. A refused call's other answer fields are 0, and its state is
 -- the one it was given.
 use Prim.Native.Nat.{ℕ}
 use mathlib.Core.Bool.{cond}
 use mathlib.Core.List.{List}
-use lib.Dec.{eqb}
 use lib.ListN.{length}
 use Rattle.memory.specs.declared.Memory.{Memory}
 use Rattle.memory.specs.declared.layout.Src.{Src}
 use Rattle.memory.specs.Bytes.{prgPeek, prgWrite, chrPeek, chrWrite, regionPeek, regionWrite, fillRegion, sramOf}
 use Rattle.memory.specs.Changes.{prgChanges, chrChanges}
-use Rattle.chip.specs.declared.namco163.Namco163.{Namco163}
 use Rattle.chip.specs.Reads.{served, byteOr, afterRead}
-use Rattle.chip.specs.Writes.{writeChip, remaps}
+use Rattle.registers.specs.Writes.{writeChip, remaps}
 use Rattle.banking.specs.Banking.{updateBanks}
 use Rattle.state.specs.declared.State.{State}
+use Rattle.state.specs.State.{withChip}
 use Rattle.namco163.specs.declared.calls.ByteRead.{ByteRead}
 use Rattle.namco163.specs.declared.calls.Changed.{Changed}
 use Rattle.namco163.specs.declared.calls.Written.{Written}
 use Rattle.namco163.specs.declared.calls.Peeked.{Peeked}
 use Rattle.namco163.specs.declared.calls.BatterySpan.{BatterySpan}
-use Rattle.namco163.specs.Refusals.{firstOf, stateChecks, arenaChecks, cpuChecks, fillChecks}
-
--- one thing where the number says accepted, another where it is a refusal's
-abbrev pub ifAccepted {ℓ} : {A : Type ℓ} → ℕ → A → A → A
-ifAccepted q a r = cond (eqb q 0) a r
-
-abbrev pub withChip : State → Namco163 → State
-withChip s n = record { chip = n; memory = s .memory }
+use Rattle.refusals.specs.Refusals.{firstOf, ifAccepted, stateChecks, arenaChecks, cpuChecks, fillChecks}
 
 -- ---- CPU read and peek: "a CPU read is `prg_read`, else `Memory::prg_peek`"
 

@@ -1,24 +1,24 @@
 // The public calls on bytes and registers: CPU read, peek and write, CHR read and write, and regions.
-use crate::refusals::arena_refusal;
-use crate::refusals::cpu_refusal;
-use crate::refusals::fill_refusal;
-use crate::refusals::state_refusal;
 use banking::update_banks;
 use chip::reads::Served;
-use chip::writes::remaps;
 use memory::Memory;
 use memory::changes::ChrChanges;
 use memory::changes::PrgChanges;
 use memory::changes::chr_changes;
 use memory::changes::prg_changes;
 use memory::layout::Src;
+use refusals::arena_refusal;
+use refusals::cpu_refusal;
+use refusals::fill_refusal;
+use refusals::state_refusal;
+use registers::writes;
 use state::State;
 ghost use mathlib.Core.Path.{_≡_};
 ghost use Prim.Native.Nat.{_<_};
 ghost use lib.ListN.{length};
 ghost use Rattle.memory.specs.Bytes.{Backed};
 ghost use Rattle.memory.specs.Memory.{Sized};
-ghost use Rattle.namco163.specs.Refusals.{firstOf, arenaChecks, fillChecks};
+ghost use Rattle.refusals.specs.Refusals.{firstOf, arenaChecks, fillChecks};
 ghost use Rattle.namco163.specs.Calls.{cpuByte, cpuRead, cpuPeek, writeRegister, changes, refusedWrite, cpuWrite, cpuWriteArena, chrRead, chrWriteArena, fillArena, regionRead, regionWriteArena, sramAnswer};
 
 // A read's answer. In each answer `refusal` is 0 for accepted.
@@ -113,12 +113,12 @@ fn write_register(s: State, addr: u16, val: u8) -> State
     ensures { λ r. ⌜ r ≡ writeRegister s addr val ⌝ }
 {
     let old = s.chip;
-    let chip = old.write_register(addr, val);
+    let chip = writes::write_register(old, addr, val);
     let board = chip.board;
     let before = old.board;
     let mut after = s;
     after.chip = chip;
-    if remaps(before, board, addr) {
+    if writes::remaps(before, board, addr) {
         let m = s.memory;
         let mapped = update_banks(chip, m);
         after.memory = mapped;

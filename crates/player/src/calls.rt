@@ -9,7 +9,6 @@ use image::writing::write_image;
 use memory::layout::Layout;
 use memory::layout::MemoryLayout;
 use memory::layout::Src;
-use namco163::battery;
 use namco163::calls as board;
 use state::State;
 
@@ -26,7 +25,7 @@ fn arena_len(sizes: MemoryLayout) -> usize {
 pub fn load(mut p: Player, arena: &mut [u8], out: &mut [u8], cartridge: Cartridge) -> Player {
     let sizes = cartridge.sizes;
     let n = within(arena_len(sizes), arena);
-    let r = namco163::load::load(
+    let r = cartridge::load(
         &mut arena[..n],
         cartridge.mapper,
         cartridge.submapper,

@@ -1,5 +1,5 @@
 // What lasts from line to line, beside the lent arrays.
-use namco163::load::no_state;
+use cartridge::no_state;
 ghost use Rattle.io.specs.Counts.{Counts};
 use state::State;
 

@@ -29,7 +29,7 @@ use Rattle.chip.specs.declared.namco163.Namco163.{Namco163}
 use Rattle.chip.specs.Load.{chipAtLoad}
 use Rattle.chip.specs.Reads.{afterRead}
 use Rattle.chip.specs.Reset.{resetChip}
-use Rattle.chip.specs.Writes.{writeChip, remaps}
+use Rattle.registers.specs.Writes.{writeChip, remaps}
 use Rattle.range.proofs.Chip.{Keeps, after-read-keeps, write-keeps, reset-keeps as reset-chip-keeps, load-fresh}
 use Rattle.banking.specs.Banking.{updateBanks}
 use Rattle.range.proofs.Banking.{Kept as MemoryKept, update-banks-ranged, update-banks-kept, mask-multiple}
@@ -39,12 +39,13 @@ use Rattle.range.specs.Typed.{Typed}
 use Rattle.state.proofs.Every.{was-true}
 use Rattle.range.proofs.State.{mapper-in, in-state, state-in, levels-fit}
 use Rattle.namco163.specs.declared.calls.Written.{Written}
-use Rattle.namco163.specs.Refusals.{firstOf, resetChecks, arenaChecks, cpuChecks, fillChecks, batteryChecks, loadChecks}
-use Rattle.namco163.specs.Calls.{withChip, cpuRead, writeRegister, changes, refusedWrite, cpuWrite, cpuWriteArena, chrWriteArena, fillArena, regionWriteArena}
-use Rattle.namco163.specs.Battery.{kindOf, resetState, syncArena, batteryBytes, restoreState}
-use Rattle.namco163.specs.Load.{LoadFits, memoryAtLoad, freshState, loadArena}
-use Rattle.namco163.proofs.load.Laws.{sized-load, load-good}
-use Rattle.namco163.proofs.refusals.Laws.{accepted-none, cpu-good, fill-good, reset-good, battery-good, backed}
+use Rattle.refusals.specs.Refusals.{firstOf, resetChecks, arenaChecks, cpuChecks, fillChecks, batteryChecks, loadChecks}
+use Rattle.state.specs.State.{withChip}
+use Rattle.namco163.specs.Calls.{cpuRead, writeRegister, changes, refusedWrite, cpuWrite, cpuWriteArena, chrWriteArena, fillArena, regionWriteArena}
+use Rattle.battery.specs.Battery.{kindOf, resetState, syncArena, batteryBytes, restoreState}
+use Rattle.cartridge.specs.Load.{LoadFits, memoryAtLoad, freshState, loadArena}
+use Rattle.cartridge.proofs.Laws.{sized-load, load-good}
+use Rattle.refusals.proofs.Laws.{accepted-none, cpu-good, fill-good, reset-good, battery-good, backed}
 use Rattle.range.proofs.Refused.{Accepted}
 
 -- ---- what is kept

@@ -20,7 +20,9 @@ use Rattle.chip.specs.Detection.{mayChange, maybeSetBoard}
 use Rattle.chip.specs.Load.{chipAtLoad}
 use Rattle.chip.specs.Reads.{afterRead}
 use Rattle.chip.specs.Reset.{resetChip}
-use Rattle.chip.specs.Writes.{bit6, bit7, writeSoundData, writeCounterLow, writeCounterHigh, writeWorkRam, writeSlot, writeNametable, writeC000, writeC800, detectE000, writeBank, highBitsE000, writeE000, writeE800, writeF000, writeF800, writeChip}
+use Rattle.chr_registers.specs.Slots.{writeSlot, writeNametable, writeC000, writeC800}
+use Rattle.prg_registers.specs.Banks.{bit6, bit7, detectE000, writeBank, highBitsE000, writeE000, writeE800, writeF000, writeF800}
+use Rattle.registers.specs.Writes.{writeSoundData, writeCounterLow, writeCounterHigh, writeWorkRam, writeChip}
 
 -- m is a step after n
 pub record Keeps (n m : Namco163) : Type 0 where

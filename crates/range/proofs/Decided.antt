@@ -13,9 +13,9 @@ use Rattle.memory.specs.Layout.{layoutOf, arenaLen}
 use Rattle.memory.specs.Memory.{regionIn}
 use Rattle.state.specs.declared.State.{State}
 use Rattle.state.specs.State.{inRange}
-use Rattle.namco163.specs.Refusals.{Check, firstOf, stateChecks, resetChecks, arenaChecks, cpuChecks, fillChecks, batteryChecks, loadChecks}
-use Rattle.namco163.specs.Load.{LoadFits}
-use Rattle.namco163.proofs.refusals.Laws.{Numbered, NoneHolds, accepted-none, none-accepted, refused-first}
+use Rattle.refusals.specs.Refusals.{Check, firstOf, stateChecks, resetChecks, arenaChecks, cpuChecks, fillChecks, batteryChecks, loadChecks}
+use Rattle.cartridge.specs.Load.{LoadFits}
+use Rattle.refusals.proofs.Laws.{Numbered, NoneHolds, accepted-none, none-accepted, refused-first}
 
 pub record Decided (cs : List Check) : Type 0 where
   pub accepted : (firstOf cs ≡ 0) ↔ NoneHolds cs

@@ -22,7 +22,7 @@ use Rattle.state.specs.declared.State.{State}
 use Rattle.state.specs.State.{inRange}
 use Rattle.state.proofs.State as Row
 use Rattle.state.proofs.Every.{was-true, was-false}
-use Rattle.namco163.specs.Refusals.{Check, firstOf, stateCheck}
+use Rattle.refusals.specs.Refusals.{Check, firstOf, stateCheck}
 use Rattle.image.specs.Image.{imageOf}
 use Rattle.image.specs.Writing.{imageCheck, writeChecks}
 use Rattle.image_read.specs.Reading.{fieldsOf, fieldsOk, fieldsCheck, readChecks, readImage}

@@ -14,7 +14,7 @@ use Rattle.memory.specs.Memory.{regionIn}
 use Rattle.state.specs.declared.State.{State}
 use Rattle.state.specs.State.{mapperOk, inRange}
 use Rattle.state.proofs.Every.{and-left, and-right, both, was-true, was-false}
-use Rattle.namco163.specs.Refusals.{Check, firstOf, stateCheck, kindCheck, mapperCheck, sizesCheck, reserveCheck, arenaCheck, addressCheck, fillCheck, batteryCheck, resetChecks, arenaChecks, cpuChecks, fillChecks, batteryChecks, loadChecks}
+use Rattle.refusals.specs.Refusals.{Check, firstOf, stateCheck, kindCheck, mapperCheck, sizesCheck, reserveCheck, arenaCheck, addressCheck, fillCheck, batteryCheck, resetChecks, arenaChecks, cpuChecks, fillChecks, batteryChecks, loadChecks}
 use Rattle.range.proofs.Decided.{Decided, reset-decided, cpu-decided, fill-decided, battery-decided, load-decided}
 
 -- what a test says of its negation

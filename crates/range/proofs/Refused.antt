@@ -11,16 +11,16 @@ use Rattle.memory.specs.declared.layout.MemoryLayout.{MemoryLayout}
 use Rattle.memory.specs.declared.layout.Src.{Src}
 use Rattle.state.specs.declared.State.{State}
 use Rattle.state.specs.State.{chipOk, inRange}
-use Rattle.namco163.specs.declared.battery.Altered.{Altered}
+use Rattle.battery.specs.declared.Altered.{Altered}
 use Rattle.namco163.specs.declared.calls.ByteRead.{ByteRead}
 use Rattle.namco163.specs.declared.calls.Peeked.{Peeked}
 use Rattle.namco163.specs.declared.calls.Written.{Written}
 use Rattle.namco163.specs.declared.calls.BatterySpan.{BatterySpan}
-use Rattle.namco163.specs.declared.load.Loaded.{Loaded}
-use Rattle.namco163.specs.Refusals.{Check, firstOf, stateChecks, resetChecks, arenaChecks, cpuChecks, fillChecks, batteryChecks, loadChecks}
-use Rattle.namco163.specs.Calls.{ifAccepted, cpuRead, cpuPeek, refusedWrite, cpuWrite, cpuWriteArena, chrRead, chrWriteArena, fillArena, regionRead, regionWriteArena, sramAnswer}
-use Rattle.namco163.specs.Battery.{resetState, syncArena, restoreState}
-use Rattle.namco163.specs.Load.{noState, loadAnswer, loadArena}
+use Rattle.cartridge.specs.declared.Loaded.{Loaded}
+use Rattle.refusals.specs.Refusals.{Check, firstOf, ifAccepted, stateChecks, resetChecks, arenaChecks, cpuChecks, fillChecks, batteryChecks, loadChecks}
+use Rattle.namco163.specs.Calls.{cpuRead, cpuPeek, refusedWrite, cpuWrite, cpuWriteArena, chrRead, chrWriteArena, fillArena, regionRead, regionWriteArena, sramAnswer}
+use Rattle.battery.specs.Battery.{resetState, syncArena, restoreState}
+use Rattle.cartridge.specs.Load.{noState, loadAnswer, loadArena}
 
 abbrev pub Accepted : List Check → Type 0
 Accepted cs = firstOf cs ≡ 0

@@ -22,8 +22,8 @@ use Rattle.chip.specs.Clock.{clockCounter}
 use Rattle.state.specs.declared.State.{State}
 use Rattle.state.specs.State.{inRange}
 use Rattle.state.proofs.Every.{was-true}
-use Rattle.namco163.specs.Refusals.{Check, firstOf, stateCheck}
-use Rattle.namco163.specs.Calls.{withChip}
+use Rattle.refusals.specs.Refusals.{Check, firstOf, stateCheck}
+use Rattle.state.specs.State.{withChip}
 use Rattle.clocks.specs.Clock.{chipClock, stateClock}
 use Rattle.clocks.specs.Run.{clocks, made, lengthCheck, roomCheck, runChecks, runGave}
 use Rattle.range.specs.Typed.{Typed}

@@ -28,6 +28,10 @@ chipOk n = mapperOk (n .«mapper_num») && (every 3 (bankTest (n .«prg_banks»)
 unfoldable pub inRange : State → Bool
 inRange s = chipOk (s .chip) && memoryOk (s .memory)
 
+-- the state with other registers
+abbrev pub withChip : State → Namco163 → State
+withChip s n = record { chip = n; memory = s .memory }
+
 -- ---- the same as facts
 
 pub record ChipInRange (n : Namco163) : Type 0 where

@@ -25,9 +25,11 @@ use Rattle.chip.specs.Clock.{clockCounter}
 use Rattle.chip.specs.Detection.{mayChange, maybeSetBoard, prgRamReadable, prgRamWritable}
 use Rattle.chip.specs.Reads.{served}
 use Rattle.chip.specs.Load.{boardAtLoad, detectingAtLoad, chipAtLoad}
-use Rattle.chip.specs.Writes.{bit6, bit7, lowHalf, highHalf, writeSoundData, writeCounterLow, writeCounterHigh, setsCiram, writeSlot, writeNametable, writeC000, writeC800, mirroringOf, detectE000, highBitsE000, writeE000, writeE800, writeF000, writeF800, writeChip}
+use Rattle.chr_registers.specs.Slots.{setsCiram, writeSlot, writeNametable, writeC000, writeC800}
+use Rattle.prg_registers.specs.Banks.{bit6, bit7, mirroringOf, detectE000, highBitsE000, writeE000, writeE800, writeF000, writeF800}
+use Rattle.registers.specs.Writes.{lowHalf, highHalf, writeSoundData, writeCounterLow, writeCounterHigh, writeChip}
 use Rattle.wiki.specs.Wiki.{WikiIrq, WikiRegs, chrPage, nametable, wikiBit, wikiCycle, wikiReadLow, wikiReadHigh, wikiWriteLow, wikiWriteHigh, wikiWrite, wikiWrites, wikiAllowed, wikiSelects, wikiShows, wikiUnprotected, wikiRamEnabled, irqOf, slotShows, Beside, chipWrites, Steady}
-use Rattle.chip.proofs.Kept.{never-unknown}
+use Rattle.registers.proofs.Kept.{never-unknown}
 use Rattle.wiki.proofs.Counter.{plainClock, clock-plain}
 
 -- ---- the counter

@@ -9,7 +9,7 @@ use lib.ListN.{length, getD, set}
 use Rattle.chip.specs.declared.namco163.Board.the-variants.{Namco163 as Is163}
 use Rattle.chip.specs.declared.namco163.Namco163.{Namco163}
 use Rattle.chip.specs.declared.namco163.Regs.{Regs}
-use Rattle.chip.specs.Writes.{writeChip}
+use Rattle.registers.specs.Writes.{writeChip}
 
 abbrev pub wikiBit : ℕ → ℕ → Bool
 wikiBit k v = eqb (v / 2 ^ k % 2) 1

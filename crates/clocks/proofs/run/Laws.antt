@@ -20,7 +20,7 @@ use Rattle.sound.proofs.run.Laws.{run-cut, samples-cut, made-closed}
 use Rattle.chip.specs.declared.namco163.Namco163.{Namco163}
 use Rattle.chip.specs.Namco163.{is163, withRegs, withAudio}
 use Rattle.state.specs.declared.State.{State}
-use Rattle.namco163.specs.Calls.{withChip}
+use Rattle.state.specs.State.{withChip}
 use Rattle.clocks.specs.Clock.{soundSample, chipClock, stateClock, counterRun, counterRise}
 use Rattle.clocks.specs.Run.{clocks, made, runChecks}
 use borrow.Author.Tests.{leb-true, ltb-false}
@@ -28,8 +28,8 @@ use Rattle.state.specs.State.{inRange, chipOk, mapperOk, bankTest}
 use Rattle.state.specs.Audio.{audioOk}
 use Rattle.state.specs.Every.{every}
 use Rattle.state.proofs.Every.{and-left, and-right, was-true}
-use Rattle.namco163.specs.Refusals.{firstOf}
-use Rattle.namco163.proofs.refusals.Laws.{accepted-none}
+use Rattle.refusals.specs.Refusals.{firstOf}
+use Rattle.refusals.proofs.Laws.{accepted-none}
 
 -- ---- one more sound clock, at the end
 

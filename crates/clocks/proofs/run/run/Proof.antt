@@ -3,7 +3,7 @@ use mathlib.Core.Path.{sym, _∙_}
 use native.Mathlib.Omega.{arith}
 use lib.ListN.{length}
 use borrow.Author.Needs.{needs}
-use Rattle.namco163.specs.Refusals.{firstOf}
+use Rattle.refusals.specs.Refusals.{firstOf}
 use Rattle.clocks.specs.Run.{clocks, runChecks, runGave}
 use Rattle.clocks.proofs.run.Laws.{run-good, refused-run}
 use mathlib.Core.Path.{sym, _∙_}

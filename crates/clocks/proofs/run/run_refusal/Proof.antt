@@ -2,7 +2,7 @@
 use mathlib.Core.Path.{sym, _∙_}
 use borrow.Author.Needs.{needs}
 use borrow.Author.Tests.{lt-ltb, le-ltb}
-use Rattle.namco163.specs.Refusals.{firstOf}
+use Rattle.refusals.specs.Refusals.{firstOf}
 use mathlib.Core.Path.{sym, _∙_}
 use borrow.Author.Tests.{lt-ltb, le-ltb}
 use Rattle.clocks.proofs.run.run_refusal.Statement.{statement}

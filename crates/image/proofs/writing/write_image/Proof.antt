@@ -1,7 +1,7 @@
 -- `write_image` meets its contract: refused by its length, accepted, refused by its state.
 use mathlib.Core.Path.{_≡_, refl, sym, ap, _∙_}
 use borrow.Author.Tests.{eq-eqb, ne-eqb}
-use Rattle.namco163.specs.Refusals.{firstOf}
+use Rattle.refusals.specs.Refusals.{firstOf}
 use Rattle.image.specs.Writing.{writeRefusal, writtenImage}
 use borrow.Author.Needs.{needs}
 use Rattle.image.proofs.writing.write_image.Statement.{statement}

@@ -1,0 +1,54 @@
+-- `get_ram` meets its contract: the bytes before i are copied.
+use Prim.Native.Nat.{_-_, _≤_}
+use mathlib.Core.Path.{_≡_, refl, _∙_}
+use native.Mathlib.Omega.{arith}
+use lib.ListN.{length}
+use lib.ListN.{length, take, length-set}
+use Rattle.battery.proofs.Copy.{copy-more, copy-all}
+use Prim.Native.Nat.{_-_, _≤_}
+use mathlib.Core.Path.{_≡_, refl, _∙_}
+use lib.ListN.{length, take, length-set}
+use Rattle.battery.proofs.Copy.{copy-more, copy-all}
+use Rattle.battery.proofs.get_ram.Statement.{statement}
+use Rattle.battery.proofs.get_ram.Tie as tie
+
+abbrev Inv-loop : tie.InvT-loop
+Inv-loop part ram₀ i₀ ram i = (i ≤ 128) × (take i ram ≡ take i part) × (length ram ≡ 128)
+
+abbrev μ-loop : tie.MeasureT-loop
+μ-loop part ram₀ i₀ ram i = 128 - i
+
+loop-holds : tie.Need-loop-holds Inv-loop μ-loop
+loop-holds c = (omega arith, refl, refl)
+
+shared-slice-read-ram : tie.Need-shared-slice-read-ram Inv-loop μ-loop
+shared-slice-read-ram c = omega arith
+
+array-write-ram : tie.Need-array-write-ram Inv-loop μ-loop
+array-write-ram c = omega arith
+
+add-i : tie.Need-add-i Inv-loop μ-loop
+add-i c = omega arith
+
+loop-less : tie.Need-loop-less Inv-loop μ-loop
+loop-less c = omega arith
+
+loop-again : tie.Need-loop-again Inv-loop μ-loop
+loop-again c = let l = c .before .before .loop in (omega arith, copy-more (l .ram) (c .before .before .before .args .part .now) (l .i) (omega arith) (omega arith) (l .inv .1), length-set (l .ram) _ _ ∙ l .inv .2)
+
+returns : tie.Need-returns Inv-loop μ-loop
+returns c = let l = c .before .loop in let e : l .i ≡ 128 = omega arith in copy-all (l .ram) (c .before .before .args .part .now) 128 (l .inv .2) (c .before .before .pre) (rw e at (l .inv .1))
+
+pub get-ram-spec : {M : Type 1} → statement M
+get-ram-spec =
+    tie.close
+    (tie.spec
+    Inv-loop
+    μ-loop
+    loop-holds
+    shared-slice-read-ram
+    array-write-ram
+    add-i
+    loop-less
+    loop-again
+    returns)

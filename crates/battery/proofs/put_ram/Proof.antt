@@ -1,0 +1,59 @@
+-- `put_ram` meets its contract: the bytes before i are copied.
+use Prim.Native.Nat.{_-_, _≤_}
+use mathlib.Core.Path.{_≡_, refl, _∙_}
+use native.Mathlib.Omega.{arith}
+use lib.ListN.{length}
+use lib.ListN.{length, take, length-set}
+use Rattle.battery.proofs.Copy.{copy-more, copy-all}
+use Rattle.sound.proofs.audio.Typed.{typed}
+use Prim.Native.Nat.{_-_, _≤_}
+use mathlib.Core.Path.{_≡_, refl, _∙_}
+use lib.ListN.{length, take, length-set}
+use Rattle.battery.proofs.Copy.{copy-more, copy-all}
+use Rattle.battery.proofs.put_ram.Statement.{statement}
+use Rattle.battery.proofs.put_ram.Tie as tie
+
+abbrev Inv-loop : tie.InvT-loop
+Inv-loop part₀ ram i₀ part i = (i ≤ 128) × (take i part ≡ take i ram) × (length part ≡ 128)
+
+abbrev μ-loop : tie.MeasureT-loop
+μ-loop part₀ ram i₀ part i = 128 - i
+
+loop-holds : tie.Need-loop-holds Inv-loop μ-loop
+loop-holds c = (omega arith, refl, c .before .pre)
+
+array-read-part : tie.Need-array-read-part Inv-loop μ-loop
+array-read-part c = omega arith
+
+slice-write-part : tie.Need-slice-write-part Inv-loop μ-loop
+slice-write-part c = omega arith
+
+add-i : tie.Need-add-i Inv-loop μ-loop
+add-i c = omega arith
+
+loop-less : tie.Need-loop-less Inv-loop μ-loop
+loop-less c = omega arith
+
+loop-again : tie.Need-loop-again Inv-loop μ-loop
+loop-again c = let l = c .before .loop in let t = typed (c .before .before .before .args .audio) _ (c .before .before .before .good .1 .0) in (omega arith, copy-more (l .part) (c .before .before .before .args .audio .ram) (l .i) (omega arith) (omega (arith, t .«ram-length»)) (l .inv .1), length-set (l .part) _ _ ∙ l .inv .2)
+
+same-length : tie.Need-same-length Inv-loop μ-loop
+same-length c = omega arith
+
+returns : tie.Need-returns Inv-loop μ-loop
+returns c = let l = c .before .loop in let e : l .i ≡ 128 = omega arith in copy-all (l .part) (c .before .before .before .args .audio .ram) 128 (l .inv .2) (typed (c .before .before .before .args .audio) _ (c .before .before .before .good .1 .0) .«ram-length») (rw e at (l .inv .1))
+
+pub put-ram-spec : {M : Type 1} → statement M
+put-ram-spec =
+    tie.close
+    (tie.spec
+    Inv-loop
+    μ-loop
+    loop-holds
+    array-read-part
+    slice-write-part
+    add-i
+    loop-less
+    loop-again
+    same-length
+    returns)

@@ -1,0 +1,54 @@
+-- `clear` meets its contract: the bytes before i are 0.
+use Prim.Native.Nat.{_-_, _≤_}
+use mathlib.Core.Path.{_≡_, refl, _∙_}
+use native.Mathlib.Omega.{arith}
+use lib.ListN.{length}
+use lib.ListN.{length, take, replicate, length-set}
+use Rattle.cartridge.proofs.Zeros.{clear-more, clear-all}
+use Prim.Native.Nat.{_-_, _≤_}
+use mathlib.Core.Path.{_≡_, refl, _∙_}
+use lib.ListN.{length, take, replicate, length-set}
+use Rattle.cartridge.proofs.Zeros.{clear-more, clear-all}
+use Rattle.cartridge.proofs.clear.Statement.{statement}
+use Rattle.cartridge.proofs.clear.Tie as tie
+
+abbrev Inv-loop : tie.InvT-loop
+Inv-loop arena₀ i₀ arena i = (i ≤ length arena) × (take i arena ≡ replicate i 0) × (length arena ≡ length arena₀)
+
+abbrev μ-loop : tie.MeasureT-loop
+μ-loop arena₀ i₀ arena i = length arena₀ - i
+
+loop-holds : tie.Need-loop-holds Inv-loop μ-loop
+loop-holds c = (omega arith, refl, refl)
+
+slice-write-arena : tie.Need-slice-write-arena Inv-loop μ-loop
+slice-write-arena c = omega arith
+
+add-i : tie.Need-add-i Inv-loop μ-loop
+add-i c = omega arith
+
+loop-less : tie.Need-loop-less Inv-loop μ-loop
+loop-less c = omega arith
+
+loop-again : tie.Need-loop-again Inv-loop μ-loop
+loop-again c = let l = c .before .loop in (rw length-set (omega arith), clear-more (l .arena) (l .i) (omega arith) (l .inv .1), length-set (l .arena) _ _ ∙ l .inv .2)
+
+same-length : tie.Need-same-length Inv-loop μ-loop
+same-length c = omega arith
+
+returns : tie.Need-returns Inv-loop μ-loop
+returns c = let l = c .before .loop in let e : l .i ≡ length (c .before .before .args .arena .now) = omega arith in clear-all (l .arena) (length (c .before .before .args .arena .now)) (l .inv .2) (rw e at (l .inv .1))
+
+pub clear-spec : {M : Type 1} → statement M
+clear-spec =
+    tie.close
+    (tie.spec
+    Inv-loop
+    μ-loop
+    loop-holds
+    slice-write-arena
+    add-i
+    loop-less
+    loop-again
+    same-length
+    returns)

@@ -1,0 +1,150 @@
+-- "conditions work both ways": a call is accepted exactly where none of its conditions holds, and refused by a number exactly where its condition is the
+-- first that holds.
+use Prim.Native.Nat.{ℕ, _+_, _≤_, _<_}
+use mathlib.Core.Path.{_≡_, refl}
+use mathlib.Core.Bool.{Bool, true, false, cond}
+use mathlib.Core.List.{List, [], _∷_, _++_}
+use native.Mathlib.Omega.{arith}
+use borrow.Author.Tests.{eqb-true, eqb-false, leb-true, ltb-false}
+use mathlib.Core.Logic.{_⊎_, inl, inr}
+use lib.Dec.{eqb, leb}
+use lib.ListN.{length}
+use Rattle.memory.specs.declared.layout.Src.{Src}
+use Rattle.memory.specs.declared.layout.Src.the-variants.{BatteryExt}
+use Rattle.memory.specs.Layout.{regionOf, arenaLen}
+use Rattle.memory.proofs.Laws.Layout.{region-in}
+use Rattle.memory.specs.Memory.{regionIn}
+use Rattle.memory.specs.Bytes.{Backed}
+use Rattle.state.specs.declared.State.{State}
+use Rattle.state.specs.State.{mapperOk, bankTest, inRange, chipOk, MemoryInRange}
+use Rattle.state.specs.Audio.{audioOk}
+use Rattle.state.specs.Every.{every}
+use Rattle.state.proofs.Every.{and-left, and-right, was-true}
+use Rattle.state.proofs.TablesRange.{memory-in}
+use Rattle.refusals.specs.Refusals.{Check, firstOf, stateChecks, resetChecks, arenaChecks, cpuChecks, fillChecks, batteryChecks}
+
+-- ---- any list of checks
+
+-- each has a number other than 0, so that 0 says accepted
+abbrev pub Numbered : List Check → Type 0
+Numbered [] = Unit
+Numbered (c ∷ cs) = (0 < c .number) × Numbered cs
+
+-- none of the conditions holds
+abbrev pub NoneHolds : List Check → Type 0
+NoneHolds [] = Unit
+NoneHolds (c ∷ cs) = (c .holds ≡ false) × NoneHolds cs
+
+pub accepted-none : (cs : List Check) → Numbered cs → firstOf cs ≡ 0 → NoneHolds cs
+unfolding firstOf
+accepted-none [] n e = tt
+accepted-none (c ∷ cs) n e = go (c .holds) refl (accepted-none cs (n .1)) e
+  where
+    go : (t : Bool) → c .holds ≡ t → (firstOf cs ≡ 0 → NoneHolds cs) → cond t (c .number) (firstOf cs) ≡ 0 → (c .holds ≡ false) × NoneHolds cs
+    go true q ih e = absurd (omega (arith, n .0, e))
+    go false q ih e = (q, ih e)
+
+pub none-accepted : (cs : List Check) → NoneHolds cs → firstOf cs ≡ 0
+unfolding firstOf
+none-accepted [] h = refl
+none-accepted (c ∷ cs) h = rw (h .0) (none-accepted cs (h .1))
+
+-- a condition that holds, where none before it does, gives its number
+pub refused-first : (before after : List Check) (c : Check) → NoneHolds before → c .holds ≡ true → firstOf (before ++ c ∷ after) ≡ c .number
+unfolding firstOf
+refused-first [] after c h e = rw e
+refused-first (b ∷ before) after c h e = rw (h .0) (refused-first before after c (h .1) e)
+
+-- more checks behind those that none holds of, and behind those that one holds of
+pub first-more : (before after : List Check) → NoneHolds before → firstOf (before ++ after) ≡ firstOf after
+unfolding firstOf
+first-more [] after h = refl
+first-more (b ∷ before) after h = rw (h .0) (first-more before after (h .1))
+
+pub first-done : (before after : List Check) → (firstOf before ≡ 0 → ⊥) → firstOf (before ++ after) ≡ firstOf before
+unfolding firstOf
+first-done [] after h = absurd (h refl)
+first-done (b ∷ before) after h = go (b .holds) (first-done before after) h
+  where
+    go : (t : Bool) → ((firstOf before ≡ 0 → ⊥) → firstOf (before ++ after) ≡ firstOf before)
+        → (cond t (b .number) (firstOf before) ≡ 0 → ⊥)
+        → cond t (b .number) (firstOf (before ++ after)) ≡ cond t (b .number) (firstOf before)
+    go true ih h = refl
+    go false ih h = ih h
+
+-- ---- what an accepted call knows
+
+pub state-good : (s : State) → firstOf (stateChecks s) ≡ 0 → inRange s ≡ true
+state-good s e = was-true (inRange s) (accepted-none (stateChecks s) (omega arith, tt) e .0)
+
+-- a memory in range and an arena of its layout's length
+pub record Arena (s : State) (len : ℕ) : Type 0 where
+  pub good : inRange s ≡ true
+  pub long : len ≡ arenaLen (s .memory .layout)
+
+arena-none : (s : State) (len : ℕ) → NoneHolds (arenaChecks s len) → Arena s len
+arena-none s len h =
+    record {
+      good = was-true (inRange s) (h .0);
+      long = eqb-true len (arenaLen (s .memory .layout)) (was-true (eqb len (arenaLen (s .memory .layout))) (h .1 .0));
+    }
+
+pub arena-good : (s : State) (len : ℕ) → firstOf (arenaChecks s len) ≡ 0 → Arena s len
+arena-good s len e = arena-none s len (accepted-none (arenaChecks s len) (omega arith, (omega arith, tt)) e)
+
+pub arena-checks : (s : State) (len : ℕ) → firstOf (arenaChecks s len) ≡ 0 → NoneHolds (arenaChecks s len)
+arena-checks s len e = accepted-none (arenaChecks s len) (omega arith, (omega arith, tt)) e
+
+pub cpu-good : (s : State) (len addr : ℕ) → firstOf (cpuChecks s len addr) ≡ 0 → Arena s len × (0x4800 ≤ addr)
+cpu-good s len addr e =
+    let h = accepted-none (cpuChecks s len addr) (omega arith, (omega arith, (omega arith, tt))) e in
+    (arena-none s len (h .0, (h .1 .0, tt)), ltb-false addr 0x4800 (h .1 .1 .0))
+
+pub fill-good : (s : State) (len : ℕ) (src : Src) (n : ℕ) → firstOf (fillChecks s len src n) ≡ 0
+    → Arena s len × (n ≤ regionIn (s .memory) src .len)
+fill-good s len src n e =
+    let h = accepted-none (fillChecks s len src n) (omega arith, (omega arith, (omega arith, tt))) e in
+    (arena-none s len (h .0, (h .1 .0, tt)), ltb-false (regionIn (s .memory) src .len) n (h .1 .1 .0))
+
+pub memory-good : (s : State) → inRange s ≡ true → MemoryInRange (s .memory)
+unfolding inRange
+memory-good s e = memory-in (s .memory) (and-right (chipOk (s .chip)) _ e)
+
+pub backed : (s : State) (arena : List ℕ) → Arena s (length arena) → Backed (s .memory) arena
+backed s arena h = record { ranged = memory-good s (h .good) .ranged; long = h .long }
+
+-- the sound port's address lies in the sound RAM
+pub port-good : (s : State) → inRange s ≡ true → s .chip .audio .addr < 128
+unfolding inRange chipOk audioOk
+port-good s e =
+    let n = s .chip in
+    let a = n .audio in
+    let c = and-left (chipOk n) _ e in
+    let sound = and-right (every 3 (bankTest (n .«prg_banks»))) _ (and-right (mapperOk (n .«mapper_num»)) _ c) in
+    let addr = and-left (leb (a .addr) 127) _ (and-right (leb (a .«current_channel») 7) _ (and-right (leb (a .«update_counter») 14) _ sound)) in
+    omega (arith, leb-true (a .addr) 127 addr)
+
+pub reset-good : (s : State) (kind : ℕ) → firstOf (resetChecks s kind) ≡ 0 → inRange s ≡ true
+reset-good s kind e = was-true (inRange s) (accepted-none (resetChecks s kind) (omega arith, (omega arith, tt)) e .0)
+
+-- the battery's 128 bytes lie in the arena
+pub record Battery (s : State) (len : ℕ) : Type 0 where
+  pub arena : Arena s len
+  pub inside : regionIn (s .memory) BatteryExt .start + 128 ≤ len
+
+pub battery-good : (s : State) (len : ℕ) → firstOf (batteryChecks s len) ≡ 0 → Battery s len
+unfolding regionOf arenaLen
+battery-good s len e =
+    let h = accepted-none (batteryChecks s len) (omega arith, (omega arith, (omega arith, tt))) e in
+    let a = arena-none s len (h .0, (h .1 .0, tt)) in
+    let m = memory-good s (a .good) in
+    let r = region-in (s .memory .layout) (s .memory .«battery_ext_len») BatteryExt (m .ranged .sized .used) in
+    record { arena = a; inside = fits (m .used) (eqb-false (s .memory .«battery_ext_len») 0 (h .1 .1 .0)) r (a .long) }
+  where
+    fits : (s .memory .«battery_ext_len» ≡ 0) ⊎ ((s .memory .«battery_ext_len» ≡ 128) × (1 ≤ s .memory .layout .«battery_ext»))
+        → (s .memory .«battery_ext_len» ≡ 0 → ⊥)
+        → regionIn (s .memory) BatteryExt .start + regionIn (s .memory) BatteryExt .len ≤ arenaLen (s .memory .layout)
+        → len ≡ arenaLen (s .memory .layout)
+        → regionIn (s .memory) BatteryExt .start + 128 ≤ len
+    fits (inl z) n r l = absurd (n z)
+    fits (inr u) n r l = omega (arith, u .0, r, l)

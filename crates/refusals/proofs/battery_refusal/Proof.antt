@@ -1,0 +1,26 @@
+-- `battery_refusal` meets its contract: the arena's checks, and one more.
+use mathlib.Core.Path.{sym, _∙_}
+use mathlib.Core.List.{[], _∷_}
+use borrow.Author.Needs.{needs}
+use borrow.Author.Tests.{eq-eqb, ne-eqb}
+use Rattle.refusals.specs.Refusals.{firstOf, arenaChecks, batteryCheck}
+use Rattle.refusals.proofs.Laws.{first-more, first-done, arena-checks}
+use Rattle.refusals.proofs.battery_refusal.Statement.{statement}
+use Rattle.refusals.proofs.battery_refusal.Tie as tie
+
+arena-refusal-requires : tie.Need-arena-refusal-requires
+arena-refusal-requires c κs = search needs
+
+returns : tie.Need-returns
+returns c = let a = c .before .before .args in c .before .arena-refusal .ensures ∙ sym (first-done (arenaChecks (a .s) (a .len)) (batteryCheck (a .s) ∷ []) (λ e. c .if1 .taken (c .before .arena-refusal .ensures ∙ e)))
+
+returns-2 : tie.Need-returns-2
+unfolding firstOf
+returns-2 c = let a = c .before .before .before .before .args in rw (first-more (arenaChecks (a .s) (a .len)) (batteryCheck (a .s) ∷ []) (arena-checks (a .s) (a .len) (sym (c .before .before .before .arena-refusal .ensures) ∙ c .before .before .if1 .left)), eq-eqb _ _ (c .if2 .taken))
+
+returns-3 : tie.Need-returns-3
+unfolding firstOf
+returns-3 c = let a = c .before .before .before .before .args in rw (first-more (arenaChecks (a .s) (a .len)) (batteryCheck (a .s) ∷ []) (arena-checks (a .s) (a .len) (sym (c .before .before .before .arena-refusal .ensures) ∙ c .before .before .if1 .left)), ne-eqb _ _ (c .if2 .left))
+
+pub battery-refusal-spec : {M : Type 1} → statement M
+battery-refusal-spec = tie.close (tie.spec arena-refusal-requires returns returns-2 returns-3)

@@ -1,0 +1,27 @@
+-- `remaps` meets its contract.
+use borrow.Author.Needs.{needs}
+use borrow.Author.Tests.{lt-ltb, le-ltb, le-leb, lt-leb}
+use Rattle.registers.specs.Writes.{remaps}
+use Rattle.registers.proofs.writes.remaps.Statement.{statement}
+use Rattle.registers.proofs.writes.remaps.Tie as tie
+
+num-requires : tie.Need-num-requires
+num-requires c κs = search needs
+
+num-requires-2 : tie.Need-num-requires-2
+num-requires-2 c κs = search needs
+
+returns : tie.Need-returns
+unfolding remaps
+returns c = rw (lt-leb _ _ (c .if1 .taken), c .before .before .num .ensures .0, c .before .num2 .ensures .0)
+
+returns-2 : tie.Need-returns-2
+unfolding remaps
+returns-2 c = rw (le-leb _ _ (c .before .if1 .left), lt-ltb _ _ (c .if2 .taken))
+
+returns-3 : tie.Need-returns-3
+unfolding remaps
+returns-3 c = rw (le-leb _ _ (c .before .if1 .left), le-ltb _ _ (c .if2 .left), c .before .before .before .num .ensures .0, c .before .before .num2 .ensures .0)
+
+pub remaps-spec : {M : Type 1} → statement M
+remaps-spec = tie.close (tie.spec num-requires num-requires-2 returns returns-2 returns-3)

@@ -1,0 +1,20 @@
+-- `write_sound_data` meets its contract.
+use borrow.Author.Needs.{needs}
+use Rattle.registers.specs.Writes.{writeSoundData}
+use Rattle.chip.proofs.Kept.{maybe-audio}
+use Rattle.registers.proofs.writes.write_sound_data.Statement.{statement}
+use Rattle.registers.proofs.writes.write_sound_data.Tie as tie
+
+maybe-set-board-requires : tie.Need-maybe-set-board-requires
+maybe-set-board-requires c κs = search needs
+
+write-register-requires : tie.Need-write-register-requires
+write-register-requires c κs = rw (c .before .maybe-set-board .ensures, maybe-audio) (c .before .before .pre)
+
+returns : tie.Need-returns
+unfolding writeSoundData
+returns c = rw (c .write-register .ensures, c .before .before .maybe-set-board .ensures)
+
+pub write-sound-data-spec : {M : Type 1} → statement M
+write-sound-data-spec =
+    tie.close (tie.spec maybe-set-board-requires write-register-requires returns)
