@@ -40,10 +40,11 @@ fn samples_made(s: State, n: u32) -> usize
     ((chip.audio.update_counter as usize) + (n as usize)) / 15
 }
 
-fn run_refusal(s: State, n: u64, room: usize) -> u8
+fn run_refusal(good: bool, s: State, n: u64, room: usize) -> u8
+    requires { ⌜ good ≡ inRange s ⌝ }
     ensures { λ r. ⌜ r ≡ firstOf (runChecks s n room) ⌝ }
 {
-    if in_range(s) {
+    if good {
         if 65536 < n {
             return 10;
         }
@@ -97,10 +98,12 @@ fn accepted_run(s: State, n: u32, samples: &mut [f32]) -> Ran
     }
 }
 
-pub fn run(s: State, n: u64, samples: &mut [f32]) -> Ran
+// Whether the state is in range is given, for a caller that knows it.
+pub fn run_of(good: bool, s: State, n: u64, samples: &mut [f32]) -> Ran
+    requires { ⌜ good ≡ inRange s ⌝ }
     ensures { λ r. ⌜ (r ≡ ranOf (runGave s n (now (samples .entry)))) × (now (samples .exit) ≡ runGave s n (now (samples .entry)) .samples) ⌝ }
 {
-    let q = run_refusal(s, n, samples.len());
+    let q = run_refusal(good, s, n, samples.len());
     if q != 0 {
         return Ran {
             refusal: q,
@@ -110,4 +113,10 @@ pub fn run(s: State, n: u64, samples: &mut [f32]) -> Ran
         };
     }
     accepted_run(s, n as u32, samples)
+}
+
+pub fn run(s: State, n: u64, samples: &mut [f32]) -> Ran
+    ensures { λ r. ⌜ (r ≡ ranOf (runGave s n (now (samples .entry)))) × (now (samples .exit) ≡ runGave s n (now (samples .entry)) .samples) ⌝ }
+{
+    run_of(in_range(s), s, n, samples)
 }

@@ -332,8 +332,8 @@ fn put_memory(img: &mut [u8], m: Memory)
     put(img, c, 32, layout_word(m));
 }
 
-// The image of a state in range.
-fn put_state(img: &mut [u8], s: State)
+// The image of a state that is known to be in range.
+pub fn put_state(img: &mut [u8], s: State)
     requires { ⌜ (length (now img) ≡ imageBytes) × (inRange s ≡ true) ⌝ }
     ensures { λ _. ⌜ now (img .exit) ≡ imageOf s ⌝ }
 {

@@ -9,15 +9,18 @@ use memory::changes::prg_changes;
 use memory::layout::Src;
 use refusals::arena_refusal;
 use refusals::cpu_refusal;
+use refusals::cpu_refusal_of;
 use refusals::fill_refusal;
 use refusals::state_refusal;
 use registers::writes;
 use state::State;
+use state::in_range;
 ghost use mathlib.Core.Path.{_≡_};
 ghost use Prim.Native.Nat.{_<_};
 ghost use lib.ListN.{length};
 ghost use Rattle.memory.specs.Bytes.{Backed};
 ghost use Rattle.memory.specs.Memory.{Sized};
+ghost use Rattle.state.specs.State.{inRange};
 ghost use Rattle.refusals.specs.Refusals.{firstOf, arenaChecks, fillChecks};
 ghost use Rattle.namco163.specs.Calls.{cpuByte, cpuRead, cpuPeek, writeRegister, changes, refusedWrite, cpuWrite, cpuWriteArena, chrRead, chrWriteArena, fillArena, regionRead, regionWriteArena, sramAnswer};
 
@@ -67,10 +70,12 @@ fn cpu_byte(s: State, arena: &[u8], addr: u16) -> u8
     }
 }
 
-pub fn cpu_read(s: State, arena: &[u8], addr: u16) -> ByteRead
+// Whether the state is in range is given, for a caller that knows it.
+pub fn cpu_read_of(good: bool, s: State, arena: &[u8], addr: u16) -> ByteRead
+    requires { ⌜ good ≡ inRange s ⌝ }
     ensures { λ r. ⌜ r ≡ cpuRead s (now (arena .entry)) addr ⌝ }
 {
-    let q = cpu_refusal(s, arena.len(), addr);
+    let q = cpu_refusal_of(good, s, arena.len(), addr);
     if q != 0 {
         return ByteRead {
             refusal: q,
@@ -88,6 +93,12 @@ pub fn cpu_read(s: State, arena: &[u8], addr: u16) -> ByteRead
         byte: byte,
         state: after,
     }
+}
+
+pub fn cpu_read(s: State, arena: &[u8], addr: u16) -> ByteRead
+    ensures { λ r. ⌜ r ≡ cpuRead s (now (arena .entry)) addr ⌝ }
+{
+    cpu_read_of(in_range(s), s, arena, addr)
 }
 
 pub fn cpu_peek(s: State, arena: &[u8], addr: u16) -> Peeked
@@ -159,10 +170,12 @@ fn refused_write(s: State, q: u8) -> Written
     }
 }
 
-pub fn cpu_write(s: State, arena: &mut [u8], addr: u16, val: u8) -> Written
+// Whether the state is in range is given, for a caller that knows it.
+pub fn cpu_write_of(good: bool, s: State, arena: &mut [u8], addr: u16, val: u8) -> Written
+    requires { ⌜ good ≡ inRange s ⌝ }
     ensures { λ r. ⌜ (r ≡ cpuWrite s (now (arena .entry)) addr val) × (now (arena .exit) ≡ cpuWriteArena s (now (arena .entry)) addr val) ⌝ }
 {
-    let q = cpu_refusal(s, arena.len(), addr);
+    let q = cpu_refusal_of(good, s, arena.len(), addr);
     if q != 0 {
         return refused_write(s, q);
     }
@@ -176,6 +189,12 @@ pub fn cpu_write(s: State, arena: &mut [u8], addr: u16, val: u8) -> Written
         state: after,
         changed: changed,
     }
+}
+
+pub fn cpu_write(s: State, arena: &mut [u8], addr: u16, val: u8) -> Written
+    ensures { λ r. ⌜ (r ≡ cpuWrite s (now (arena .entry)) addr val) × (now (arena .exit) ≡ cpuWriteArena s (now (arena .entry)) addr val) ⌝ }
+{
+    cpu_write_of(in_range(s), s, arena, addr, val)
 }
 
 pub fn chr_read(s: State, arena: &[u8], addr: u16) -> Peeked

@@ -7,7 +7,7 @@ use state::in_range;
 ghost use mathlib.Core.Path.{_≡_};
 ghost use mathlib.Core.Bool.{_&&_};
 ghost use lib.Dec.{eqb};
-ghost use Rattle.state.specs.State.{mapperOk};
+ghost use Rattle.state.specs.State.{mapperOk, inRange};
 ghost use Rattle.refusals.specs.Refusals.{firstOf, stateChecks, resetChecks, arenaChecks, cpuChecks, fillChecks, batteryChecks, loadChecks};
 
 pub fn state_refusal(s: State) -> u8
@@ -31,10 +31,12 @@ pub fn reset_refusal(s: State, kind: u64) -> u8
     2
 }
 
-pub fn arena_refusal(s: State, len: usize) -> u8
+// Whether the state is in range is given, for callers that know it; so below.
+pub fn arena_refusal_of(good: bool, s: State, len: usize) -> u8
+    requires { ⌜ good ≡ inRange s ⌝ }
     ensures { λ r. ⌜ r ≡ firstOf (arenaChecks s len) ⌝ }
 {
-    if in_range(s) {
+    if good {
         let m = s.memory;
         let layout = m.layout;
         if len == layout.arena_len() {
@@ -45,10 +47,17 @@ pub fn arena_refusal(s: State, len: usize) -> u8
     2
 }
 
-pub fn cpu_refusal(s: State, len: usize, addr: u16) -> u8
+pub fn arena_refusal(s: State, len: usize) -> u8
+    ensures { λ r. ⌜ r ≡ firstOf (arenaChecks s len) ⌝ }
+{
+    arena_refusal_of(in_range(s), s, len)
+}
+
+pub fn cpu_refusal_of(good: bool, s: State, len: usize, addr: u16) -> u8
+    requires { ⌜ good ≡ inRange s ⌝ }
     ensures { λ r. ⌜ r ≡ firstOf (cpuChecks s len addr) ⌝ }
 {
-    let q = arena_refusal(s, len);
+    let q = arena_refusal_of(good, s, len);
     if q != 0 {
         return q;
     }
@@ -56,6 +65,12 @@ pub fn cpu_refusal(s: State, len: usize, addr: u16) -> u8
         return 8;
     }
     0
+}
+
+pub fn cpu_refusal(s: State, len: usize, addr: u16) -> u8
+    ensures { λ r. ⌜ r ≡ firstOf (cpuChecks s len addr) ⌝ }
+{
+    cpu_refusal_of(in_range(s), s, len, addr)
 }
 
 pub fn fill_refusal(s: State, len: usize, src: Src, n: usize) -> u8

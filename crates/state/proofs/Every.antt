@@ -46,6 +46,11 @@ every-all zero p h = refl
 every-all (suc n) p h = both (every n p) (p n) (every-all n p (λ i l. h i (omega arith))) (h n (omega arith))
 
 -- one more passes, and one that fails
+-- one test more, whether or not it passes
+pub every-next : (n : ℕ) (p : ℕ → Bool) (a b : Bool) → a ≡ every n p → b ≡ p n → a && b ≡ every (n + 1) p
+unfolding every
+every-next n p a b e f = rw (add-one n, e, f)
+
 pub every-more : (n : ℕ) (p : ℕ → Bool) → every n p ≡ true → p n ≡ true → every (n + 1) p ≡ true
 unfolding every
 every-more n p e q = rw add-one (both (every n p) (p n) e q)

@@ -40,49 +40,41 @@ fn used_ok(used: usize, l: Layout) -> bool
     false
 }
 
-// An entry of an arena of so many bytes.
+// An entry of an arena of so many bytes. No test is skipped, so that many entries are tested at a time.
 fn entry_ok(bytes: usize, p: Page) -> bool
     requires { ⌜ bytes ≤ 858112 ⌝ }
     ensures { λ r. ⌜ r ≡ entryOk bytes p ⌝ }
 {
     let offset = p.offset();
-    if offset % 1024 != 0 {
-        return false;
-    }
-    if bytes <= offset {
-        return false;
-    }
-    p.0 / 0x4000_0000 % 2 != 1
+    (offset % 1024 == 0) & ((offset < bytes) & (p.0 / 0x4000_0000 % 2 != 1))
 }
 
 fn prg_ok(bytes: usize, pages: [Page; 64]) -> bool
     requires { ⌜ bytes ≤ 858112 ⌝ }
     ensures { λ r. ⌜ r ≡ every 64 (entryTest bytes pages) ⌝ }
 {
+    let mut ok = true;
     let mut i: usize = 0;
     while i < 64 {
         let p = pages[i];
-        if !entry_ok(bytes, p) {
-            return false;
-        }
+        ok = ok & entry_ok(bytes, p);
         i += 1;
     }
-    true
+    ok
 }
 
 fn chr_ok(bytes: usize, pages: [Page; 16]) -> bool
     requires { ⌜ bytes ≤ 858112 ⌝ }
     ensures { λ r. ⌜ r ≡ every 16 (entryTest bytes pages) ⌝ }
 {
+    let mut ok = true;
     let mut i: usize = 0;
     while i < 16 {
         let p = pages[i];
-        if !entry_ok(bytes, p) {
-            return false;
-        }
+        ok = ok & entry_ok(bytes, p);
         i += 1;
     }
-    true
+    ok
 }
 
 pub fn memory_ok(m: Memory) -> bool

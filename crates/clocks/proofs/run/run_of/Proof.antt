@@ -1,4 +1,4 @@
--- `run` meets its contract: refused, and accepted.
+-- `run_of` meets its contract: refused, and accepted.
 use mathlib.Core.Path.{sym, _∙_}
 use native.Mathlib.Omega.{arith}
 use lib.ListN.{length}
@@ -6,12 +6,8 @@ use borrow.Author.Needs.{needs}
 use Rattle.refusals.specs.Refusals.{firstOf}
 use Rattle.clocks.specs.Run.{clocks, runChecks, runGave}
 use Rattle.clocks.proofs.run.Laws.{run-good, refused-run}
-use mathlib.Core.Path.{sym, _∙_}
-use lib.ListN.{length}
-use Rattle.clocks.specs.Run.{runChecks, runGave}
-use Rattle.clocks.proofs.run.Laws.{run-good, refused-run}
-use Rattle.clocks.proofs.run.run.Statement.{statement}
-use Rattle.clocks.proofs.run.run.Tie as tie
+use Rattle.clocks.proofs.run.run_of.Statement.{statement}
+use Rattle.clocks.proofs.run.run_of.Tie as tie
 
 run-refusal-requires : tie.Need-run-refusal-requires
 run-refusal-requires c κs = search needs
@@ -32,8 +28,8 @@ same-length c = search needs
 returns-2 : tie.Need-returns-2
 returns-2 c = search needs
 
-pub run-spec : {M : Type 1} → statement M
-run-spec =
+pub run-of-spec : {M : Type 1} → statement M
+run-of-spec =
     tie.close
     (tie.spec
     run-refusal-requires

@@ -1,0 +1,113 @@
+-- Refused by the image, or on to the call on its state.
+use Prim.Native.Nat.{ℕ, _≤_}
+use mathlib.Core.Path.{_≡_, refl, sym, ap, _∙_}
+use mathlib.Core.Bool.{Bool, true, false}
+use mathlib.Core.List.{List, [], _∷_}
+use native.Mathlib.Omega.{arith}
+use borrow.Author.Tests.{le-ltb, eq-eqb, ne-eqb, eqb-true}
+use lib.Dec.{eqb, leb}
+use lib.ListN.{length, getD}
+use Rattle.memory.specs.declared.layout.MemoryLayout.{MemoryLayout}
+use Rattle.chip.specs.Reads.{afterRead}
+use Rattle.state.specs.declared.State.{State}
+use Rattle.state.specs.State.{inRange}
+use Rattle.state.proofs.Every.{and-right}
+use Rattle.refusals.specs.Refusals.{Check, firstOf, stateCheck, cpuChecks, loadChecks}
+use Rattle.namco163.specs.Calls.{cpuRead}
+use Rattle.cartridge.specs.Load.{freshState, loadAnswer}
+use Rattle.refusals.proofs.Laws.{first-done}
+use Rattle.image.specs.Image.{imageBytes, imageOf, part, partWidths}
+use Rattle.image.specs.Writing.{imageCheck, writeRefusal, writtenImage}
+use Rattle.image_read.specs.Reading.{cutInto, stateOf, fieldsOk, fieldsOf, readChecks, readImage}
+use Rattle.image_read.proofs.RoundTrip.{accepted-in-range}
+use Rattle.image_read.proofs.Accepted.{accepted}
+use Rattle.host.specs.Host.{Gives, unlessRefused, onImage, stateIn}
+
+-- ---- a refused call, and an accepted one
+
+pub refused-gives : (cs : List Check) (img lent : List ℕ) (g : Gives) → (firstOf cs ≡ 0 → ⊥)
+    → unlessRefused cs img lent g ≡ record { word = firstOf cs; image = img; lent = lent }
+refused-gives cs img lent g h = rw (ne-eqb (firstOf cs) 0 h)
+
+pub accepted-gives : (cs : List Check) (img lent : List ℕ) (g : Gives) → firstOf cs ≡ 0 → unlessRefused cs img lent g ≡ g
+accepted-gives cs img lent g e = rw e
+
+-- ---- the image
+
+pub fields-range : (vs : List ℕ) → fieldsOk vs ≡ true → inRange (stateOf vs) ≡ true
+unfolding fieldsOk
+fields-range vs e = and-right (leb (getD (part (cutInto partWidths vs) 1) 1 0) 4) _ e
+
+read-number : (img : List ℕ) → readImage img .refusal ≡ firstOf (readChecks img)
+unfolding readImage
+read-number img = go (eqb (firstOf (readChecks img)) 0) refl
+  where
+    go : (t : Bool) → eqb (firstOf (readChecks img)) 0 ≡ t → readImage img .refusal ≡ firstOf (readChecks img)
+    go true e = rw e (sym (eqb-true (firstOf (readChecks img)) 0 e))
+    go false e = rw e
+
+module _ (img : List ℕ) (own : List Check) (lent : List ℕ) (g : Gives) where
+  -- an image that is refused: the call answers its number
+  pub stopped : (readImage img .refusal ≡ 0 → ⊥) → unlessRefused (onImage img own) img lent g ≡ record { word = readImage img .refusal; image = img; lent = lent }
+  stopped h =
+      let d = first-done (readChecks img) own (λ e. h (read-number img ∙ e)) ∙ sym (read-number img) in
+      refused-gives (onImage img own) img lent g (λ e. h (sym d ∙ e)) ∙ ap (λ (q : ℕ). record { word = q; image = img; lent = lent }) d
+
+  -- an image that is accepted: the call goes on with its state
+  pub onward : readImage img .refusal ≡ 0 → unlessRefused (onImage img own) img lent g ≡ unlessRefused (stateCheck (stateIn img) ∷ own) img lent g
+  unfolding firstOf
+  onward e =
+      let h = accepted-in-range img e in
+      rw (eq-eqb (length img) imageBytes (h .0), h .1, fields-range (fieldsOf img) (h .1))
+
+pub state-read : (img : List ℕ) → readImage img .refusal ≡ 0 → readImage img .state ≡ stateIn img
+state-read img e = let h = accepted-in-range img e in ap (λ r. r .state) (accepted img (h .0) (h .1))
+
+pub range-read : (img : List ℕ) → readImage img .refusal ≡ 0 → inRange (readImage img .state) ≡ true
+range-read img e = ap inRange (state-read img e) ∙ fields-range (fieldsOf img) (accepted-in-range img e .1)
+
+-- ---- the image of a state in range
+
+pub written-in-range : (s : State) (img : List ℕ) → length img ≡ imageBytes → inRange s ≡ true → writtenImage s img ≡ imageOf s
+unfolding writtenImage writeRefusal firstOf
+written-in-range s img l e = rw (eq-eqb (length img) imageBytes l, e)
+
+-- ---- a call on a state, by the number that it answered
+
+module _ (cs : List Check) (img lent : List ℕ) (g : Gives) (q : ℕ) (is : q ≡ firstOf cs) where
+  pub call-refused : (q ≡ 0 → ⊥) → record { word = q; image = img; lent = lent } ≡ unlessRefused cs img lent g
+  call-refused h = ap (λ (x : ℕ). record { word = x; image = img; lent = lent }) is ∙ sym (refused-gives cs img lent g (λ e. h (is ∙ e)))
+
+  pub call-accepted : q ≡ 0 → g ≡ unlessRefused cs img lent g
+  call-accepted e = sym (accepted-gives cs img lent g (sym is ∙ e))
+
+abbrev pub word-of : {a b : Gives} → a ≡ b → a .word ≡ b .word
+word-of e = ap (λ (g : Gives). g .word) e
+
+abbrev pub image-of : {a b : Gives} → a ≡ b → a .image ≡ b .image
+image-of e = ap (λ (g : Gives). g .image) e
+
+abbrev pub lent-of : {a b : Gives} → a ≡ b → a .lent ≡ b .lent
+lent-of e = ap (λ (g : Gives). g .lent) e
+
+-- ---- an image that is only written
+
+pub not-307 : (img : List ℕ) (cs : List Check) (lent : List ℕ) (g : Gives) → (length img ≡ imageBytes → ⊥)
+    → record { word = 1; image = img; lent = lent } ≡ unlessRefused (imageCheck (length img) ∷ cs) img lent g
+unfolding firstOf
+not-307 img cs lent g h = rw (ne-eqb (length img) imageBytes h)
+
+pub is-307 : (img : List ℕ) (cs : List Check) → length img ≡ imageBytes → firstOf cs ≡ firstOf (imageCheck (length img) ∷ cs)
+unfolding firstOf
+is-307 img cs l = rw (eq-eqb (length img) imageBytes l)
+
+pub load-state : (mapper sub flags : ℕ) (known : Bool) (sizes : MemoryLayout) (len : ℕ) → firstOf (loadChecks mapper sizes len) ≡ 0
+    → loadAnswer mapper sub flags known sizes len .state ≡ freshState mapper sub flags known sizes
+unfolding loadAnswer
+load-state mapper sub flags known sizes len e = rw e
+
+-- ---- a read outside the sound port
+
+pub still-read : (s : State) (arena : List ℕ) (addr : ℕ) → 0x5000 ≤ addr → firstOf (cpuChecks s (length arena) addr) ≡ 0 → cpuRead s arena addr .state ≡ s
+unfolding cpuRead afterRead
+still-read s arena addr h e = rw (e, le-ltb addr 0x4800 (omega arith), le-ltb addr 0x5000 h)

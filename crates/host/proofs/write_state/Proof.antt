@@ -1,0 +1,99 @@
+-- `write_state` meets its contract: refused, and accepted. The PRG mask has no bit below 24, so it and the CHR mask do not meet.
+use Prim.Native.Nat.{_+_, _*_}
+use mathlib.Core.Path.{_≡_, sym, ap, _∙_}
+use native.Mathlib.Omega.{arith}
+use lib.ListN.{length}
+use borrow.Author.Needs.{needs}
+use Rattle.namco163.specs.declared.calls.Written.{Written}
+use Rattle.refusals.specs.Refusals.{cpuChecks}
+use Rattle.namco163.specs.Calls.{cpuWrite, cpuWriteArena}
+use Rattle.image.specs.Image.{imageOf}
+use Rattle.state.specs.State.{inRange}
+use Rattle.range.proofs.Refused.{cpu-write-number, cpu-write-refused}
+use Rattle.range.proofs.Calls.{cpu-write-keeps, cpu-write-mask}
+use Rattle.range.proofs.Types.{typed-state}
+use Rattle.host.specs.Host.{writeGives}
+use Rattle.host.proofs.Laws.{call-refused, call-accepted, word-of, image-of, lent-of}
+use Rattle.host.proofs.write_state.Statement.{statement}
+use Rattle.host.proofs.write_state.Tie as tie
+
+cpu-write-of-requires : tie.Need-cpu-write-of-requires
+cpu-write-of-requires c κs = sym (c .before .before .before .pre .1)
+
+cast-result : tie.Need-cast-result
+cast-result c = search needs
+
+same-length : tie.Need-same-length
+same-length c = search needs
+
+returns : tie.Need-returns
+returns c =
+    let a = c .before .before .before .before .before .before .before .before .before .args in
+    let arena = a .arena .now in
+    let r = c .before .before .before .before .before .cpu-write-of in
+    let q = ap (λ (x : Written). x .refusal) (r .ensures .0) ∙ cpu-write-number (a .s) arena (a .addr) (a .val) in
+    let h = c .before .if1 .taken in
+    let e = call-refused (cpuChecks (a .s) (length arena) (a .addr)) (a .image .now) arena (writeGives (a .s) arena (a .addr) (a .val)) (r .result .refusal) q h in
+    (word-of e, (image-of e, r .ensures .1 ∙ cpu-write-refused (a .s) arena (a .addr) (λ z. h (q ∙ z)) (a .val) .1 ∙ lent-of e))
+
+put-state-requires : tie.Need-put-state-requires
+put-state-requires c κs =
+    let t = c .before .before .before .before .before .before .before .before .before .before in
+    let a = t .args in
+    let arena = a .arena .now in
+    let r = c .before .before .before .before .before .before .cpu-write-of in
+    let q = ap (λ (x : Written). x .refusal) (r .ensures .0) ∙ cpu-write-number (a .s) arena (a .addr) (a .val) in
+    let z = c .before .before .if1 .left in
+    let k = cpu-write-keeps (a .s) arena (a .addr) (a .val) (search needs) (typed-state (a .s) _ (t .good .0)) (λ i. omega (arith, c .before .before .before .before .before .before .before .before .before .slice-known .given i)) (sym q ∙ z) in
+    (t .pre .0, ap (λ (x : Written). inRange (x .state)) (r .ensures .0) ∙ k .0 .range)
+
+cast-result-2 : tie.Need-cast-result-2
+cast-result-2 c = search needs
+
+mul-result : tie.Need-mul-result
+mul-result c = search needs
+
+add-result : tie.Need-add-result
+add-result c =
+    let a = c .before .before .before .before .before .before .before .before .before .before .before .before .before .before .before .args in
+    let r = c .before .before .before .before .before .before .before .before .before .before .before .cpu-write-of in
+    let m = ap (λ (x : Written). x .changed .prg .mask) (r .ensures .0) in
+    omega (arith, m, cpu-write-mask (a .s) (a .arena .now) (a .addr) (a .val), c .struct-known4 .given, c .before .struct-known3 .given)
+
+same-length-2 : tie.Need-same-length-2
+same-length-2 c = search needs
+
+same-length-3 : tie.Need-same-length-3
+same-length-3 c = search needs
+
+returns-2 : tie.Need-returns-2
+returns-2 c =
+    let t = c .before .before .before .before .before .before .before .before .before .before .before .before .before .before .before in
+    let a = t .args in
+    let arena = a .arena .now in
+    let r = c .before .before .before .before .before .before .before .before .before .before .before .cpu-write-of in
+    let q = ap (λ (x : Written). x .refusal) (r .ensures .0) ∙ cpu-write-number (a .s) arena (a .addr) (a .val) in
+    let z = c .before .before .before .before .before .before .before .if1 .left in
+    let e = call-accepted (cpuChecks (a .s) (length arena) (a .addr)) (a .image .now) arena (writeGives (a .s) arena (a .addr) (a .val)) (r .result .refusal) q z in (
+      ap (λ (x : Written). x .changed .chr .mask * 256 + x .changed .prg .mask) (r .ensures .0) ∙ word-of e,
+      (
+        c .before .before .before .before .put-state .ensures ∙ ap (λ (x : Written). imageOf (x .state)) (r .ensures .0) ∙ image-of e,
+        r .ensures .1 ∙ lent-of e,
+      ),
+    )
+
+pub write-state-spec : {M : Type 1} → statement M
+write-state-spec =
+    tie.close
+    (tie.spec
+    cpu-write-of-requires
+    cast-result
+    same-length
+    returns
+    put-state-requires
+    cast-result-2
+    mul-result
+    add-result
+    same-length-2
+    same-length-3
+    returns-2)
