@@ -1,0 +1,220 @@
+/* The cartridge boards Namco 163, 175 and 340 of the NES (iNES mappers 19 and 210), for a C or C++ host.
+ *
+ * A cartridge is two blocks of bytes that the host owns and lends to each call:
+ *   image  307 bytes: registers, sound chip, page tables, sizes. The library alone writes it; it may be copied and kept like any bytes.
+ *   arena  the cartridge's memory: ROM, RAM and nametables, one after the other.
+ * Image and arena together are the whole state, so copies of both are a save state. The library keeps nothing between calls and allocates nothing.
+ *
+ * A host
+ *   1. asks namco163_arena_of for the arena's length and allocates image and arena;
+ *   2. calls namco163_load, which fills the arena with zeros and writes the image;
+ *   3. copies the cartridge's ROM bytes (and a saved PRG-RAM) into the arena itself, at the places that namco163_arena_of gives;
+ *   4. calls namco163_write and namco163_read for each access of the CPU from 4800 on, and namco163_run for the clocks in between.
+ *
+ * Each call answers 64 bits: in bits 0..7 a refusal number, 0 for accepted, and what it found in the others (see the accessors below). A refused
+ * call has all other bits 0 and leaves image, arena and samples as they were. Any numbers, lengths and bytes may be passed.
+ *
+ * What the host owes: each pointer is to as many bytes as the length behind it says, is not null (also where the length is 0), and the blocks
+ * passed to one call do not overlap. Addresses in these comments are hexadecimal, sizes decimal. */
+#ifndef NAMCO163_H
+#define NAMCO163_H
+
+#include <stddef.h>
+#include <stdint.h>
+#include <string.h>
+
+#ifdef __cplusplus
+extern "C" {
+#endif
+
+#define NAMCO163_IMAGE_SIZE 307u  /* bytes of an image */
+#define NAMCO163_PAGE_SIZE 1024u  /* bytes of a page: regions are whole pages, and page table entries show one each */
+#define NAMCO163_SAMPLE_SIZE 4u   /* bytes of a sample */
+#define NAMCO163_CLOCK_LIMIT 65536u /* clocks of one run, at most */
+#define NAMCO163_MOST_SAMPLES 4370u /* samples of one run, at most */
+#define NAMCO163_UPDATE_CLOCKS 15u  /* CPU clocks from one sample to the next */
+
+/* The largest sizes that a load accepts, in bytes. */
+#define NAMCO163_PRG_ROM_LIMIT 524288u
+#define NAMCO163_PRG_RAM_LIMIT 65536u
+#define NAMCO163_BATTERY_LIMIT 1024u
+#define NAMCO163_CHR_LIMIT 262144u
+#define NAMCO163_CIRAM_LIMIT 4096u
+
+/* Sizes of the two page tables. PRG page k shows CPU addresses 400 * k on, CHR page k PPU addresses 400 * k on. */
+#define NAMCO163_PRG_PAGES 64u
+#define NAMCO163_CHR_PAGES 16u
+
+/* Why a call was refused, in the order in which it is checked: the first that holds is the answer. */
+enum namco163_refusals {
+    NAMCO163_ACCEPTED = 0,
+    NAMCO163_IMAGE_LENGTH = 1,   /* every call: the image's length is not 307 */
+    NAMCO163_OUT_OF_RANGE = 2,   /* read, write, run, reset: the image holds a field that no state has */
+    NAMCO163_RESET_KIND = 3,     /* reset: the kind is neither 0 nor 1 */
+    NAMCO163_MAPPER = 4,         /* load: the mapper is neither 19 nor 210 */
+    NAMCO163_SIZE = 5,           /* load: a size is above its limit */
+    NAMCO163_NO_BATTERY = 6,     /* load: mapper 19 with a battery reserve of 0 bytes */
+    NAMCO163_ARENA_LENGTH = 7,   /* load, read, write: the arena's length is not that of the sizes */
+    NAMCO163_ADDRESS = 8,        /* read, write: the CPU address is below 4800 */
+    NAMCO163_FILL_LENGTH = 9,    /* no C call: a fill is longer than its region */
+    NAMCO163_CLOCKS = 10,        /* run: more than 65,536 clocks */
+    NAMCO163_SAMPLES_LENGTH = 11, /* run: there is no room for the samples that it makes; whole groups of 4 bytes count */
+    NAMCO163_BATTERY_UNUSED = 12 /* no C call: battery sync or restore without a used battery */
+};
+
+/* Kinds of a reset. */
+enum namco163_reset_kinds { NAMCO163_SOFT = 0, NAMCO163_HARD = 1 };
+
+/* Puts in a cartridge: the image becomes that of its fresh state (whatever it held), the whole arena 0. No reset is part of it.
+ *   mapper       19 (Namco 163) or 210 (Namco 175 and 340)
+ *   submapper    the NES 2.0 submapper; for mapper 210, 1 is a 175, 2 a 340, and with another number the board is found by what is written
+ *   flags        byte 6 of the iNES header: bit 3 four screens, else bit 0 vertical (1) or horizontal (0) mirroring
+ *   in_database  0 for no, any other for yes: the game is known, so a board of mapper 19 is a 163 for good; else it may turn out to be another
+ *   prg_rom, prg_ram, battery, chr, ciram   sizes in bytes, each rounded up to whole pages; a CIRAM of 0 means 2048. The battery reserve holds a
+ *                163's sound RAM; 128 is what the chip has, and mapper 19 needs 1 or more
+ *   chr_ram      0: CHR is ROM; any other: CHR is RAM
+ * Answers the refusal number alone: 0, or 1, 4, 5, 6, 7. */
+uint64_t namco163_load(uint8_t *image, size_t image_len, uint8_t *arena, size_t arena_len, uint64_t mapper, uint8_t submapper, uint8_t flags,
+                       uint64_t in_database, uint64_t prg_rom, uint64_t prg_ram, uint64_t battery, uint64_t chr, uint64_t chr_ram,
+                       uint64_t ciram);
+
+/* A CPU read of 4800..FFFF. 4800..4FFF is the sound port, and such a read may move the sound address in the image; 5000..5FFF is the IRQ counter,
+ * and the rest is memory by the page table. A read from 5000 on changes nothing.
+ * Answers the byte (namco163_byte), or refusal 1, 2, 7, 8. */
+uint64_t namco163_read(uint8_t *image, size_t image_len, const uint8_t *arena, size_t arena_len, uint16_t addr);
+
+/* A CPU write to 4800..FFFF: stores into the arena where the page is writable (one byte at most), then writes the board's register, in the image.
+ * Answers which page table entries changed (namco163_prg_mask, namco163_chr_mask), or refusal 1, 2, 7, 8. What the host has derived from an
+ * entry, such as translated code or a pointer, is out of date once its bit is set; namco163_prg_entry and namco163_chr_entry have the new ones. */
+uint64_t namco163_write(uint8_t *image, size_t image_len, uint8_t *arena, size_t arena_len, uint16_t addr, uint8_t val);
+
+/* So many CPU clocks, 0..65,536: counts the IRQ counter and plays the sound, in the image. Each 15th enabled clock of a 163 makes one sample; the
+ * samples go to the start of `samples`, and the bytes behind them stay. How clocks are cut into runs does not show in samples, rises or state.
+ * Answers how many samples were made (namco163_samples), and on which clock of this run, from 1, the IRQ line rose, or 0 (namco163_rise); or
+ * refusal 1, 2, 10, 11. The line stays up until the counter is written at 5000..5FFF. */
+uint64_t namco163_run(uint8_t *image, size_t image_len, uint8_t *samples, size_t samples_len, uint64_t clocks);
+
+/* The console's reset: 0 soft (button), 1 hard (power). Both clear the sound chip with its RAM; hard also clears the IRQ counter and takes the line
+ * down. No page table entry changes, but the next write that maps pages shows the first page of CIRAM in all nametables of a 163.
+ * Answers the refusal number alone: 0, or 1, 2, 3. */
+uint64_t namco163_reset(uint8_t *image, size_t image_len, uint64_t kind);
+
+/* ---- Parts of an answer. In a refused answer each is 0, but for the refusal. */
+
+/* Any call: 0 for accepted, else one of namco163_refusals. */
+static inline unsigned namco163_refusal(uint64_t answer) { return (unsigned)(answer & 0xFF); }
+
+/* A read: the byte. */
+static inline uint8_t namco163_byte(uint64_t answer) { return (uint8_t)(answer >> 8 & 0xFF); }
+
+/* A write: bit k is set if CHR entry k (PPU addresses 400 * k on) changed. */
+static inline uint16_t namco163_chr_mask(uint64_t answer) { return (uint16_t)(answer >> 8 & 0xFFFF); }
+
+/* A write: bit k is set if PRG entry k (CPU addresses 400 * k on) changed. Bits 0..23, the addresses below 6000, are never set. */
+static inline uint64_t namco163_prg_mask(uint64_t answer) { return answer >> 24 << 24; }
+
+/* A run: how many samples it made. */
+static inline uint32_t namco163_samples(uint64_t answer) { return (uint32_t)(answer >> 8 & 0xFFFFFF); }
+
+/* A run: the clock of this run, from 1, on which the IRQ line rose, or 0. A run has at most one. */
+static inline uint32_t namco163_rise(uint64_t answer) { return (uint32_t)(answer >> 32); }
+
+/* What a refusal number means, in words. */
+static inline const char *namco163_refusal_text(unsigned refusal) {
+    static const char *const texts[] = {
+        "accepted", "the image is not 307 bytes long", "the image holds a field out of range", "the reset kind is neither 0 nor 1",
+        "the mapper is neither 19 nor 210", "a size is above its limit", "mapper 19 needs a battery reserve of 1 byte or more",
+        "the arena's length is not that of the sizes", "the CPU address is below $4800", "the fill is longer than its region",
+        "the run is longer than 65536 clocks", "there is no room for the run's samples", "no battery is in use",
+    };
+    return refusal < sizeof texts / sizeof texts[0] ? texts[refusal] : "no refusal has this number";
+}
+
+/* ---- Samples */
+
+/* How many samples a run of so many clocks makes at most: room for these is never refused. */
+static inline size_t namco163_most_samples(uint32_t clocks) {
+    return ((size_t)clocks + NAMCO163_UPDATE_CLOCKS - 1) / NAMCO163_UPDATE_CLOCKS;
+}
+
+/* The sample whose four bytes (a 32-bit IEEE float, most significant byte first) start here; sample i of a run starts at byte 4 * i.
+ * It is never negative and at most 0.3825. */
+static inline float namco163_sample(const uint8_t *bytes) {
+    uint32_t bits = (uint32_t)bytes[0] << 24 | (uint32_t)bytes[1] << 16 | (uint32_t)bytes[2] << 8 | (uint32_t)bytes[3];
+    float sample;
+    memcpy(&sample, &bits, sizeof sample);
+    return sample;
+}
+
+/* ---- The arena */
+
+/* Where each region starts in the arena, and the arena's length, in bytes. The order is: a page that unmapped addresses show, PRG-ROM, CHR if it is
+ * ROM, PRG-RAM, battery reserve, CHR if it is RAM, CIRAM (the nametables). A host writes ROM bytes at prg_rom and chr. What a battery keeps is the
+ * PRG-RAM, at prg_ram, and of a 163 also the 128 bytes of sound RAM, image bytes 23 on, which go back by writes to F800 and 4800. */
+struct namco163_arena {
+    size_t prg_rom, chr, prg_ram, battery, ciram, length;
+};
+
+/* A size in bytes rounded up to whole pages. */
+static inline size_t namco163_whole_pages(uint64_t size) {
+    return (size_t)((size + NAMCO163_PAGE_SIZE - 1) / NAMCO163_PAGE_SIZE * NAMCO163_PAGE_SIZE);
+}
+
+/* The arena of these sizes, which are those of namco163_load. All 0 if a size is above its limit. */
+static inline struct namco163_arena namco163_arena_of(uint64_t prg_rom, uint64_t prg_ram, uint64_t battery, uint64_t chr, uint64_t chr_ram,
+                                                      uint64_t ciram) {
+    struct namco163_arena at = {0, 0, 0, 0, 0, 0};
+    if (prg_rom > NAMCO163_PRG_ROM_LIMIT || prg_ram > NAMCO163_PRG_RAM_LIMIT || battery > NAMCO163_BATTERY_LIMIT || chr > NAMCO163_CHR_LIMIT ||
+        ciram > NAMCO163_CIRAM_LIMIT)
+        return at;
+    at.prg_rom = NAMCO163_PAGE_SIZE;
+    at.prg_ram = at.prg_rom + namco163_whole_pages(prg_rom) + (chr_ram ? 0 : namco163_whole_pages(chr));
+    at.battery = at.prg_ram + namco163_whole_pages(prg_ram);
+    at.ciram = at.battery + namco163_whole_pages(battery) + (chr_ram ? namco163_whole_pages(chr) : 0);
+    at.chr = (chr_ram ? at.ciram : at.prg_ram) - namco163_whole_pages(chr);
+    at.length = at.ciram + namco163_whole_pages(ciram ? ciram : 2048);
+    return at;
+}
+
+/* The arena's length alone, which does not depend on whether CHR is ROM or RAM. 0 if a size is above its limit; at most 858,112. */
+static inline size_t namco163_arena_length(uint64_t prg_rom, uint64_t prg_ram, uint64_t battery, uint64_t chr, uint64_t ciram) {
+    return namco163_arena_of(prg_rom, prg_ram, battery, chr, 0, ciram).length;
+}
+
+/* ---- What an image shows. Each takes an image that a call has written. */
+
+/* A page table entry: the arena's byte that the page's first address shows, and whether stores reach it. An unmapped page shows byte 0 on. */
+struct namco163_page {
+    size_t offset;
+    int writable;
+};
+
+/* Entry k of both tables, PRG before CHR: 11 bits each from image byte 193 on, the page's number and then the flag. */
+static inline struct namco163_page namco163_entry(const uint8_t *image, unsigned k) {
+    unsigned bit = 11 * k;
+    const uint8_t *at = image + 193 + bit / 8;
+    uint32_t entry = ((uint32_t)at[0] << 16 | (uint32_t)at[1] << 8 | (uint32_t)at[2]) >> (13 - bit % 8) & 0x7FF;
+    struct namco163_page page;
+    page.offset = (size_t)(entry >> 1) * NAMCO163_PAGE_SIZE;
+    page.writable = (int)(entry & 1);
+    return page;
+}
+
+/* What the CPU address shows: byte offset + addr % 1024 of the arena. (The CPU reaches its registers at 4800..5FFF by calls alone.) */
+static inline struct namco163_page namco163_prg_entry(const uint8_t *image, uint16_t addr) {
+    return namco163_entry(image, addr / NAMCO163_PAGE_SIZE);
+}
+
+/* What the PPU address (taken modulo 4000) shows: byte offset + addr % 1024 of the arena. The PPU reads and, where writable, stores there itself. */
+static inline struct namco163_page namco163_chr_entry(const uint8_t *image, uint16_t addr) {
+    return namco163_entry(image, NAMCO163_PRG_PAGES + addr / NAMCO163_PAGE_SIZE % NAMCO163_CHR_PAGES);
+}
+
+/* 1 while the board holds the IRQ line up, else 0. */
+static inline int namco163_irq_line(const uint8_t *image) { return image[2] >> 7; }
+
+#ifdef __cplusplus
+}
+#endif
+
+#endif

@@ -1,0 +1,222 @@
+/* The five calls and the header's helpers, from C99 and C++11: answers, refusals in their order, and what a refused call leaves as it was. */
+#include <stdio.h>
+#include <stdlib.h>
+
+#include "namco163.h"
+
+/* 01's layout P: 52 pages. */
+enum { ARENA = 53248, SAMPLES = 4 * 4370 + 3 };
+
+static uint8_t image[NAMCO163_IMAGE_SIZE + 1], arena[ARENA + 1], samples[SAMPLES];
+static uint8_t image_before[sizeof image], arena_before[sizeof arena], samples_before[sizeof samples];
+static int checks, failures;
+
+#define CHECK(what) check(what, #what, __LINE__)
+#define EQUAL(got, expected) equal(got, expected, #got, __LINE__)
+
+static void check(int holds, const char *what, int line) {
+    checks++;
+    if (holds) return;
+    failures++;
+    printf("tests/host.c:%d: not so: %s\n", line, what);
+}
+
+static void equal(uint64_t got, uint64_t expected, const char *what, int line) {
+    checks++;
+    if (got == expected) return;
+    failures++;
+    printf("tests/host.c:%d: %s is %llX and not %llX\n", line, what, (unsigned long long)got, (unsigned long long)expected);
+}
+
+static uint64_t load(uint64_t mapper, uint64_t known, uint64_t prg_rom, uint64_t battery) {
+    return namco163_load(image, NAMCO163_IMAGE_SIZE, arena, ARENA, mapper, 0, 0, known, prg_rom, 8192, battery, 8192, 0, 2048);
+}
+static uint64_t read_at(unsigned addr) { return namco163_read(image, NAMCO163_IMAGE_SIZE, arena, ARENA, (uint16_t)addr); }
+static uint64_t write_at(unsigned addr, unsigned val) {
+    return namco163_write(image, NAMCO163_IMAGE_SIZE, arena, ARENA, (uint16_t)addr, (uint8_t)val);
+}
+static uint64_t run(uint64_t clocks) { return namco163_run(image, NAMCO163_IMAGE_SIZE, samples, SAMPLES, clocks); }
+static uint64_t reset(uint64_t kind) { return namco163_reset(image, NAMCO163_IMAGE_SIZE, kind); }
+
+static void keep(void) {
+    memcpy(image_before, image, sizeof image);
+    memcpy(arena_before, arena, sizeof arena);
+    memcpy(samples_before, samples, sizeof samples);
+}
+
+/* Whether nothing that was lent has changed since `keep`. */
+static int kept(void) {
+    return !memcmp(image_before, image, sizeof image) && !memcmp(arena_before, arena, sizeof arena) &&
+           !memcmp(samples_before, samples, sizeof samples);
+}
+
+static void test_sizes(void) {
+    struct namco163_arena rom = namco163_arena_of(32768, 8192, 128, 8192, 0, 2048);
+    struct namco163_arena ram = namco163_arena_of(32768, 8192, 128, 8192, 1, 2048);
+    EQUAL(namco163_arena_length(32768, 8192, 128, 8192, 2048), ARENA);
+    EQUAL(namco163_arena_length(524288, 65536, 1024, 262144, 4096), 858112);
+    EQUAL(namco163_arena_length(0, 0, 0, 0, 0), 3072);
+    EQUAL(namco163_arena_length(1, 1025, 1, 0, 1), 6144);
+    EQUAL(namco163_arena_length(524289, 0, 0, 0, 0), 0);
+    EQUAL(namco163_arena_length(0, 65537, 0, 0, 0), 0);
+    EQUAL(namco163_arena_length(0, 0, 1025, 0, 0), 0);
+    EQUAL(namco163_arena_length(0, 0, 0, 262145, 0), 0);
+    EQUAL(namco163_arena_length(0, 0, 0, 0, 4097), 0);
+    EQUAL(namco163_arena_length((uint64_t)-1, 0, 0, 0, 0), 0);
+    CHECK(rom.prg_rom == 1024 && rom.chr == 33792 && rom.prg_ram == 41984 && rom.battery == 50176 && rom.ciram == 51200 && rom.length == ARENA);
+    CHECK(ram.prg_rom == 1024 && ram.prg_ram == 33792 && ram.battery == 41984 && ram.chr == 43008 && ram.ciram == 51200 && ram.length == ARENA);
+    EQUAL(namco163_most_samples(0), 0);
+    EQUAL(namco163_most_samples(1), 1);
+    EQUAL(namco163_most_samples(15), 1);
+    EQUAL(namco163_most_samples(16), 2);
+    EQUAL(namco163_most_samples(NAMCO163_CLOCK_LIMIT), NAMCO163_MOST_SAMPLES);
+    CHECK(!strcmp(namco163_refusal_text(0), "accepted") && !strcmp(namco163_refusal_text(12), "no battery is in use"));
+    CHECK(!strcmp(namco163_refusal_text(13), "no refusal has this number"));
+}
+
+/* A load does not read the image, zeroes the arena, and writes 01's bits. */
+static void test_load(void) {
+    static const uint8_t start[8] = {0x00, 0x00, 0x00, 0x08, 0x00, 0x98, 0x00, 0x80}, end[4] = {0x08, 0x04, 0x41, 0x05};
+    size_t zeros = 0;
+    memset(image, 0xA5, sizeof image);
+    memset(arena, 0xA5, sizeof arena);
+    EQUAL(load(19, 1, 32768, 128), 0);
+    while (zeros < sizeof arena && arena[zeros] == 0) zeros++;
+    EQUAL(zeros, ARENA);
+    CHECK(image[NAMCO163_IMAGE_SIZE] == 0xA5 && arena[ARENA] == 0xA5);
+    CHECK(!memcmp(image, start, sizeof start) && image[151] == 0 && image[152] == 7 && !memcmp(image + 303, end, sizeof end));
+    EQUAL(namco163_prg_entry(image, 0xE000).offset, 25 * 1024);
+    EQUAL(namco163_prg_entry(image, 0x6400).offset, 42 * 1024);
+    CHECK(namco163_prg_entry(image, 0x6400).writable && !namco163_prg_entry(image, 0xE000).writable);
+    EQUAL(namco163_prg_entry(image, 0x5C00).offset, 0);
+    EQUAL(namco163_chr_entry(image, 0x3C00).offset, 33 * 1024);
+    keep();
+    EQUAL(load(19, 256, 32768, 128), 0);
+    CHECK(kept());
+    EQUAL(load(19, (uint64_t)1 << 32, 32768, 128), 0);
+    CHECK(kept());
+}
+
+/* Words of answers: a read's byte, a write's masks. */
+static void test_answers(void) {
+    uint64_t answer = write_at(0x8000, 0xE1);
+    EQUAL(answer, 0x100);
+    CHECK(namco163_chr_mask(answer) == 1 && namco163_prg_mask(answer) == 0);
+    EQUAL(namco163_chr_entry(image, 0x4000).offset, 51 * 1024);
+    CHECK(namco163_chr_entry(image, 0x0000).writable);
+    answer = write_at(0xE000, 0x3F);
+    EQUAL(answer, 0xFF00000000);
+    CHECK(namco163_chr_mask(answer) == 0 && namco163_prg_mask(answer) == 0xFF00000000);
+    arena[25 * 1024 + 5] = 0x77;
+    EQUAL(read_at(0x8005), 0x7700);
+    EQUAL(namco163_byte(read_at(0xE005)), 0x77);
+    EQUAL(write_at(0x6403, 0x5A), 0);
+    EQUAL(arena[42 * 1024 + 3], 0x5A);
+    EQUAL(write_at(0xF800, 0xFF), 0);
+    EQUAL(write_at(0x4800, 0x5A), 0);
+    EQUAL(image[23 + 0x7F], 0x5A);
+    EQUAL(read_at(0x4FFF), 0);
+    EQUAL(image[151] >> 1, 0x01);
+    EQUAL(load(19, 0, 32768, 128), 0);
+    EQUAL(write_at(0xE000, 0x80), 0xFFFF0000);
+    CHECK(namco163_chr_mask(0xFFFF0000) == 0xFF00 && namco163_prg_mask(0xFFFF0000) == 0xFF000000);
+}
+
+/* Volume 15 on channel 7 alone, and a wave of zeros: each sample is 3720 * 0.0001, bits 3EBE76C8. */
+static void test_run(void) {
+    static const uint8_t bytes[4] = {0x3E, 0xBE, 0x76, 0xC8};
+    const float level = namco163_sample(bytes);
+    uint64_t answer;
+    size_t same = 0;
+    CHECK(level > 0.3719f && level < 0.3721f);
+    EQUAL(load(19, 1, 32768, 128), 0);
+    EQUAL(write_at(0xF800, 0x7F), 0);
+    EQUAL(write_at(0x4800, 0x0F), 0);
+    EQUAL(write_at(0x5800, 0x80), 0);
+    memset(samples, 0xA5, sizeof samples);
+    answer = run(65536);
+    EQUAL(answer, 0x7FFF00111100);
+    CHECK(namco163_samples(answer) == 4369 && namco163_rise(answer) == 32767 && namco163_irq_line(image) == 1);
+    while (same < sizeof samples && samples[same] == bytes[same % 4]) same++;
+    EQUAL(same, 4 * 4369);
+    while (same < sizeof samples && samples[same] == 0xA5) same++;
+    EQUAL(same, sizeof samples);
+    EQUAL(write_at(0x5000, 0xFF), 0);
+    EQUAL(namco163_irq_line(image), 0);
+    keep();
+    EQUAL(run(0), 0);
+    CHECK(kept());
+}
+
+/* A soft reset keeps the IRQ line, a hard one takes it down; both clear the sound RAM. */
+static void test_reset(void) {
+    EQUAL(write_at(0x5000, 0xFE), 0);
+    EQUAL(write_at(0x5800, 0xFF), 0);
+    EQUAL(namco163_rise(run(2)), 1);
+    EQUAL(reset(NAMCO163_SOFT), 0);
+    EQUAL(namco163_irq_line(image), 1);
+    EQUAL(read_at(0x5800), 0xFF00);
+    EQUAL(image[23 + 0x7F], 0);
+    EQUAL(write_at(0x4800, 0x5A), 0);
+    EQUAL(reset(NAMCO163_HARD), 0);
+    EQUAL(namco163_irq_line(image), 0);
+    EQUAL(read_at(0x5800), 0);
+    EQUAL(image[23], 0);
+}
+
+/* Refusals of a load, by 01's order: 1 4 5 6 7. */
+static void test_refused_loads(void) {
+    keep();
+    EQUAL(namco163_load(image, 306, arena, 0, 20, 0, 0, 1, 524289, 0, 0, 0, 0, 0), NAMCO163_IMAGE_LENGTH);
+    EQUAL(namco163_load(image, 308, arena, ARENA, 19, 0, 0, 1, 32768, 8192, 128, 8192, 0, 2048), NAMCO163_IMAGE_LENGTH);
+    EQUAL(load(20, 1, 524289, 0), NAMCO163_MAPPER);
+    EQUAL(load(65555, 1, 32768, 128), NAMCO163_MAPPER);
+    EQUAL(load(19, 1, 524289, 0), NAMCO163_SIZE);
+    EQUAL(load(19, 1, ((uint64_t)1 << 32) + 32768, 128), NAMCO163_SIZE);
+    EQUAL(load(19, 1, 32768, 1025), NAMCO163_SIZE);
+    EQUAL(load(19, 1, 1024, 0), NAMCO163_NO_BATTERY);
+    EQUAL(load(19, 1, 1024, 128), NAMCO163_ARENA_LENGTH);
+    EQUAL(namco163_load(image, 307, arena, ARENA + 1, 19, 0, 0, 1, 32768, 8192, 128, 8192, 0, 2048), NAMCO163_ARENA_LENGTH);
+    CHECK(kept());
+}
+
+/* Refusals of the other calls: 1 2 7 8 of reads and writes, 1 2 10 11 of runs, 1 2 3 of resets. */
+static void test_refused_calls(void) {
+    EQUAL(load(19, 1, 32768, 128), 0);
+    EQUAL(run(14), 0);
+    keep();
+    EQUAL(namco163_read(image, 306, arena, 0, 0), NAMCO163_IMAGE_LENGTH);
+    EQUAL(namco163_read(image, 307, arena, ARENA - 1, 0), NAMCO163_ARENA_LENGTH);
+    EQUAL(read_at(0x47FF), NAMCO163_ADDRESS);
+    EQUAL(namco163_write(image, 308, arena, 0, 0, 0), NAMCO163_IMAGE_LENGTH);
+    EQUAL(namco163_write(image, 307, arena, ARENA + 1, 0, 0), NAMCO163_ARENA_LENGTH);
+    EQUAL(write_at(0, 0), NAMCO163_ADDRESS);
+    EQUAL(namco163_run(image, 0, samples, 0, 65537), NAMCO163_IMAGE_LENGTH);
+    EQUAL(namco163_run(image, 307, samples, 0, 65537), NAMCO163_CLOCKS);
+    EQUAL(run(((uint64_t)1 << 32) + 5), NAMCO163_CLOCKS);
+    EQUAL(namco163_run(image, 307, samples, 3, 1), NAMCO163_SAMPLES_LENGTH);
+    EQUAL(namco163_run(image, 307, samples, 4 * 4370 - 1, 65536), NAMCO163_SAMPLES_LENGTH);
+    EQUAL(namco163_reset(image, 306, 2), NAMCO163_IMAGE_LENGTH);
+    EQUAL(reset(2), NAMCO163_RESET_KIND);
+    EQUAL(reset(256), NAMCO163_RESET_KIND);
+    image[152] |= 0x78; /* an update counter of 15 */
+    memcpy(image_before, image, sizeof image);
+    EQUAL(namco163_read(image, 307, arena, 0, 0), NAMCO163_OUT_OF_RANGE);
+    EQUAL(namco163_write(image, 307, arena, 0, 0, 0), NAMCO163_OUT_OF_RANGE);
+    EQUAL(run(65537), NAMCO163_OUT_OF_RANGE);
+    EQUAL(reset(2), NAMCO163_OUT_OF_RANGE);
+    CHECK(kept());
+}
+
+int main(void) {
+    test_sizes();
+    test_load();
+    test_answers();
+    test_run();
+    test_reset();
+    test_refused_loads();
+    test_refused_calls();
+    if (failures) printf("%d of %d checks of the C calls failed\n", failures, checks);
+    else printf("%d checks of the C calls\n", checks);
+    return failures ? EXIT_FAILURE : EXIT_SUCCESS;
+}
