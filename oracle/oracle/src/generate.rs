@@ -1,7 +1,7 @@
 //! Random sessions in the replay program's language. A seed gives the same calls everywhere.
 
 mod actions;
-mod loads;
+pub mod loads;
 
 use crate::{player::Player, rng::Rng, session::Session, text::Call};
 use actions::{ACTIONS, Action, weighted};

@@ -1,12 +1,16 @@
 //! The 307-byte image, written from 01's paragraph 'Host and image'.
 
 use crate::{
-    layout::Layout,
-    session::{Session, entry},
+    layout::{Layout, PAGE},
+    range::in_range,
+    refusal::Refusal,
+    session::{SOUND_RAM, Session, entry},
 };
+use std::array;
 use tetanes::{
-    m019_namco163::{Audio, Board, Namco163},
-    memory::Memory,
+    m019_namco163::{Audio, Board, Namco163, Regs},
+    memory::{Memory, MemoryLayout},
+    ppu::Mirroring,
 };
 
 pub const LEN: usize = 307;
@@ -74,6 +78,11 @@ fn board_number(board: Board) -> u64 {
     }
 }
 
+/// Boards and mirrorings by their numbers in the image.
+pub const BOARDS: [Board; 4] = [Board::Unknown, Board::Namco163, Board::Namco175, Board::Namco340];
+pub const MIRRORINGS: [Mirroring; 5] =
+    [Mirroring::Vertical, Mirroring::Horizontal, Mirroring::SingleScreenA, Mirroring::SingleScreenB, Mirroring::FourScreen];
+
 fn put_audio(packer: &mut Packer, audio: &Audio) {
     packer.all(8, audio.ram.as_ref());
     packer.put(7, audio.addr as u64);
@@ -102,4 +111,98 @@ fn put_memory(packer: &mut Packer, memory: &Memory) {
     packer.flag(layout.chr_ram);
     packer.put(3, layout.ciram);
     packer.flag(*memory.raw_battery_ext_len() != 0);
+}
+
+/// Takes numbers of given widths, most significant bit first.
+struct Unpacker<'a> {
+    bytes: &'a [u8],
+    bit: usize,
+}
+
+impl Unpacker<'_> {
+    fn take(&mut self, width: usize) -> u64 {
+        let bits = self.bit..self.bit + width;
+        self.bit = bits.end;
+        bits.fold(0, |value, bit| value << 1 | u64::from(self.bytes[bit / 8] >> (7 - bit % 8) & 1))
+    }
+
+    fn flag(&mut self) -> bool {
+        self.take(1) == 1
+    }
+
+    fn all<const N: usize>(&mut self, width: usize) -> [u64; N] {
+        array::from_fn(|_| self.take(width))
+    }
+}
+
+/// The state of an image, with an arena of no bytes: 01's image reading.
+pub fn decode(bytes: &[u8]) -> Result<Session, Refusal> {
+    Refusal::ImageLength.when(bytes.len() != LEN)?;
+    let mut unpacker = Unpacker { bytes, bit: 0 };
+    let chip = take_chip(&mut unpacker)?;
+    let memory = take_memory(&mut unpacker);
+    assert_eq!(unpacker.bit, LEN * 8);
+    Refusal::OutOfRange.when(!in_range(&chip, &memory))?;
+    Ok(Session { chip, memory })
+}
+
+/// Fields in the image's order, which is the order in which they are written here. A mirroring above 4 has no number in the Rust.
+fn take_chip(unpacker: &mut Unpacker) -> Result<Namco163, Refusal> {
+    Ok(Namco163 {
+        regs: Regs {
+            irq_counter: unpacker.take(16) as u16,
+            irq_pending: unpacker.flag(),
+            nt_select_lo: unpacker.flag(),
+            nt_select_hi: unpacker.flag(),
+            prg_ram_protect: unpacker.take(8) as u8,
+        },
+        board: BOARDS[unpacker.take(2) as usize],
+        mapper_num: unpacker.take(16) as u16,
+        submapper_num: unpacker.take(8) as u8,
+        auto_detect_board: unpacker.flag(),
+        mirroring: *MIRRORINGS.get(unpacker.take(3) as usize).ok_or(Refusal::OutOfRange)?,
+        prg_ram_written_to: unpacker.flag(),
+        nt_bank_enable: unpacker.all(1).map(|flag| flag == 1),
+        chr_banks: unpacker.all(8).map(|bank| bank as u8),
+        prg_banks: unpacker.all(6).map(|bank| bank as u8),
+        audio: take_audio(unpacker),
+    })
+}
+
+fn take_audio(unpacker: &mut Unpacker) -> Audio {
+    let mut audio = Audio::new();
+    audio.ram = unpacker.all(8).map(|byte| byte as u8).into();
+    audio.addr = unpacker.take(7) as usize;
+    audio.auto_increment = unpacker.flag();
+    audio.disabled = unpacker.flag();
+    audio.update_counter = unpacker.take(4) as u8;
+    audio.current_channel = unpacker.take(3) as i8;
+    audio.channel_out = unpacker.all(12).map(|level| level as f32);
+    audio.out = f32::from_bits(unpacker.take(32) as u32);
+    *audio.raw_phase_ext_mut() = unpacker.all(24).map(|phase| phase as u32);
+    audio
+}
+
+fn take_memory(unpacker: &mut Unpacker) -> Memory {
+    let mut memory = Memory::new(MemoryLayout::default());
+    *memory.raw_data_mut() = Box::default();
+    let entries = unpacker.all::<80>(11).map(|entry| ((entry >> 1) * PAGE) | ((entry & 1) << 31));
+    let (prg, chr) = (0..64, 64..80);
+    for (page, entry) in memory.raw_prg_pages_mut().iter_mut().zip(&entries[prg]) {
+        *page.raw_mut() = *entry as u32;
+    }
+    for (page, entry) in memory.raw_chr_pages_mut().iter_mut().zip(&entries[chr]) {
+        *page.raw_mut() = *entry as u32;
+    }
+    let layout = Layout {
+        prg_rom: unpacker.take(10),
+        prg_ram: unpacker.take(7),
+        battery: unpacker.take(1),
+        chr: unpacker.take(9),
+        chr_ram: unpacker.flag(),
+        ciram: unpacker.take(3),
+    };
+    layout.set(&mut memory);
+    *memory.raw_battery_ext_len_mut() = if unpacker.flag() { SOUND_RAM } else { 0 };
+    memory
 }

@@ -3,6 +3,7 @@
 pub mod compare;
 pub mod coverage;
 pub mod generate;
+pub mod host;
 pub mod image;
 pub mod layout;
 pub mod player;
@@ -11,5 +12,6 @@ pub mod recut;
 pub mod refusal;
 pub mod rng;
 pub mod session;
+pub mod states;
 pub mod stretches;
 pub mod text;

@@ -28,6 +28,12 @@ impl Rng {
         self.number() as u8
     }
 
+    pub fn bytes(&mut self, count: usize) -> Vec<u8> {
+        let mut bytes: Vec<u8> = (0..count.div_ceil(8)).flat_map(|_| self.number().to_le_bytes()).collect();
+        bytes.truncate(count);
+        bytes
+    }
+
     /// True once in that many times.
     pub fn once_in(&mut self, times: u64) -> bool {
         self.below(times) == 0

@@ -13,8 +13,9 @@ use checks::{Check, Checks};
 use std::panic::{self, AssertUnwindSafe};
 
 /// Parts besides the twelve cases and the edge results.
-const PARTS: [(&str, Check); 6] = [
+const PARTS: [(&str, Check); 7] = [
     ("image encoder", images::check),
+    ("image reading", images::reading),
     ("language", language::check),
     ("classes that the generator reaches", generated::coverage),
     ("same seed, same bytes", generated::repeatable),

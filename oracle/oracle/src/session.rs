@@ -73,6 +73,14 @@ impl Session {
         Layout::of(&self.memory)
     }
 
+    pub fn arena(&self) -> &[u8] {
+        self.memory.raw_data()
+    }
+
+    pub fn lend_arena(&mut self, bytes: Box<[u8]>) {
+        *self.memory.raw_data_mut() = bytes;
+    }
+
     pub fn read(&mut self, addr: u16) -> Result<u8, Refusal> {
         self.refuse_cpu(addr)?;
         Ok(self.chip.prg_read(addr).unwrap_or_else(|| self.memory.prg_peek(addr)))

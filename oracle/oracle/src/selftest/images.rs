@@ -1,13 +1,20 @@
-//! Tests of the image encoder: a fresh P, and the first bit of every field.
+//! Tests of the image's writing and reading: a fresh P, the first bit of every field, what is out of range, and both round trips.
 
 use super::{
-    bench::{Handy, P, loaded, number},
+    bench::{Handy, P, loaded, number, refusal},
     checks::Checks,
 };
-use oracle::{image::LEN, session::Session};
+use oracle::{
+    image::{LEN, decode, encode},
+    range::in_range,
+    rng::Rng,
+    session::Session,
+    states,
+};
 use tetanes::{m019_namco163::Board, ppu::Mirroring};
 
 type Lending = fn(&mut Session);
+type Numbers = &'static [u64];
 
 /// The reading notes' 'First bits': field, first bit, width of one number, how many, and how to give the first and the last of them the
 /// greatest number that the field can be lent (in range, so that the image can be written).
@@ -87,13 +94,74 @@ pub fn check(t: &mut Checks) {
     for (what, first, width, value, lend) in NUMBERS {
         let mut session = loaded(P);
         lend(&mut session);
-        let mut expected = fresh;
-        for place in 0..*width {
-            let bit = first + width - 1 - place;
-            let mask = 0x80 >> (bit % 8);
-            expected[bit / 8] = if value >> place & 1 == 1 { expected[bit / 8] | mask } else { expected[bit / 8] & !mask };
+        t.holds(what, image(&session) == with_number(fresh, *first, *width, *value));
+    }
+}
+
+/// An image with another number in one of its fields.
+fn with_number(mut image: [u8; LEN], first: usize, width: usize, value: u64) -> [u8; LEN] {
+    for place in 0..width {
+        let bit = first + width - 1 - place;
+        let mask = 0x80 >> (bit % 8);
+        image[bit / 8] = if value >> place & 1 == 1 { image[bit / 8] | mask } else { image[bit / 8] & !mask };
+    }
+    image
+}
+
+/// Fields of a fresh P's image that can be out of range: field, first bit, width, how many, numbers in range, numbers out of it.
+const RANGES: &[(&str, usize, usize, usize, Numbers, Numbers)] = &[
+    ("mapper", 29, 16, 1, &[19, 210], &[0, 18, 20, 209, 211, 0x1300, 0xFFFF]),
+    ("mirroring", 54, 3, 1, &[0, 1, 2, 3, 4], &[5, 6, 7]),
+    ("update counter", 1217, 4, 1, &[0, 14], &[15]),
+    ("outputs", 1224, 12, 8, &[0, 3825], &[3826, 4095]),
+    ("`out`", 1320, 32, 1, &[0, 1, 0x456F_1000], &[0x456F_1001, 0x7F80_0000, 0x7FC0_0000, 0x8000_0000, 0xBF80_0000, 0xFFFF_FFFF]),
+    ("entries", 1544, 11, 80, &[0, 1, 51 << 1, 51 << 1 | 1], &[52 << 1, 52 << 1 | 1, 1_023 << 1]),
+    ("PRG-ROM", 2424, 10, 1, &[32, 512], &[513, 1_023]),
+    ("PRG-RAM", 2434, 7, 1, &[8, 64], &[65, 127]),
+    ("CHR", 2442, 9, 1, &[8, 256], &[257, 511]),
+    ("CIRAM", 2452, 3, 1, &[1, 2, 3, 4], &[0, 5, 6, 7]),
+    ("used without reserve", 2441, 1, 1, &[1], &[0]),
+];
+
+pub fn reading(t: &mut Checks) {
+    let fresh = image(&loaded(P));
+    for len in [0, 306, 308] {
+        t.eq("another length", refusal(decode(&vec![0; len])), 1);
+    }
+    for (what, first, width, count, fit, unfit) in RANGES {
+        for index in 0..*count {
+            let with = |value: &u64| with_number(fresh, first + width * index, *width, *value);
+            t.holds(what, fit.iter().all(|value| reads_back(&with(value))));
+            t.holds(what, unfit.iter().all(|value| refusal(decode(&with(value))) == 2));
         }
-        t.holds(what, image(&session) == expected);
+    }
+    other_bits(t, &fresh);
+    round_trips(t);
+}
+
+fn reads_back(image: &[u8; LEN]) -> bool {
+    decode(image).is_ok_and(|session| encode(&session) == *image)
+}
+
+/// "Nothing else": an image with any bit of another field flipped is read, and written as it was.
+fn other_bits(t: &mut Checks, fresh: &[u8; LEN]) {
+    let ranged = |bit: usize| RANGES.iter().any(|(_, first, width, count, ..)| (*first..first + width * count).contains(&bit));
+    for bit in (0..LEN * 8).filter(|bit| !ranged(*bit)) {
+        let mut image = *fresh;
+        image[bit / 8] ^= 0x80 >> (bit % 8);
+        t.holds(&format!("bit {bit} flipped"), reads_back(&image));
+    }
+}
+
+/// "Reading what a state in range was written to gives that state".
+fn round_trips(t: &mut Checks) {
+    let mut rng = Rng::new(1);
+    for _ in 0..500 {
+        let mut session = states::any(&mut rng);
+        t.holds("a random state is in range", in_range(&session.chip, &session.memory));
+        session.lend_arena(Box::default());
+        let read = decode(&encode(&session)).map(|read| read.whole());
+        t.holds("a random state is read back", read.is_ok_and(|read| read == session.whole()));
     }
 }
 

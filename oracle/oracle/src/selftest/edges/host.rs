@@ -1,26 +1,93 @@
-//! The reading notes on 01, 'Host and image': what the Rust's answers make of the host's words. The image has tests of its own.
+//! The reading notes on 01, 'Host and image' and the host's rows of 'Refused calls'. The image has tests of its own.
 
 use crate::selftest::{
-    bench::{D, Handy, P, loaded},
+    bench::{D, Handy, N175, P, loaded},
     checks::Checks,
+    voice::{Voice, lend},
 };
-use oracle::session::{Ran, Written};
-
-/// "Write: CHR mask·2^8 + PRG mask, unshifted."
-fn write_word(Written { prg, chr }: Written) -> u64 {
-    chr.mask << 8 | prg.mask
-}
-
-/// "Run: made·2^8 + rise·2^32."
-fn run_word(Ran { made, rise }: Ran) -> u64 {
-    made << 8 | rise << 32
-}
+use oracle::{
+    host::{Host, HostCall, run_word, write_word},
+    image::{self, LEN},
+    layout::Load,
+};
 
 pub fn check(t: &mut Checks) {
+    words(t);
+    samples(t);
+    refusals(t);
+    loads(t);
+}
+
+fn words(t: &mut Checks) {
     t.eq("P: 8000=E1", write_word(loaded(P).put(0x8000, 0xE1)), 0x100);
     t.eq("P: E000=3F", write_word(loaded(P).put(0xE000, 0x3F)), 0xFF_0000_0000);
     t.eq("D: E000=80", write_word(loaded(D).put(0xE000, 0x80)), 0xFFFF_0000);
     let mut p = loaded(P);
     p.set_counter(0x8000, false);
     t.eq("fresh P with counter 8000, run 65,536", run_word(p.clocks(65_536)), 0x7FFF_0011_1100);
+    let mut p = loaded(P);
+    p.set_counter(0xA55A, false);
+    let mut host = Host::new(p);
+    t.eq("a read's word", [0x5000, 0x5800].map(|addr| host.call(HostCall::Read(addr))), [0x5A00, 0xA500]);
+}
+
+/// "floor(bytes / 4) places; sample i in bytes 4i..4i+3, most significant first; bytes from 4·made on stay".
+fn samples(t: &mut Checks) {
+    for (lent, word, left) in [
+        (3, 11, vec![0xEE; 3]),
+        (4, 0x100, vec![0x3C, 0x2C, 0x08, 0x31]),
+        (7, 0x100, vec![0x3C, 0x2C, 0x08, 0x31, 0xEE, 0xEE, 0xEE]),
+        (9, 0x100, vec![0x3C, 0x2C, 0x08, 0x31, 0xEE, 0xEE, 0xEE, 0xEE, 0xEE]),
+    ] {
+        let mut p = loaded(P);
+        lend(&mut p, 7, Voice { volume: 15, nibble: 0xF, ..Voice::default() });
+        let mut host = Host::new(p);
+        host.samples = vec![0xEE; lent];
+        t.eq("a run of 15 clocks", host.call(HostCall::Run(15)), word);
+        t.eq("its sample bytes", &host.samples, &left);
+    }
+}
+
+/// "host read; write: 1 2 7 8", "host run: 1 2 10 11", "host reset: 1 2 3": everything wrong, then one thing after another mended.
+fn refusals(t: &mut Checks) {
+    let fit = image::encode(&loaded(P));
+    let mut bad = fit;
+    // The counter of updates, bits 1217..1220, is then 15.
+    bad[152] |= 0x78;
+    let images: [&[u8]; 4] = [&fit[..306], &bad, &fit, &fit];
+    for (call, answers) in [
+        (HostCall::Read(0x47FF), [1, 2, 7, 8]),
+        (HostCall::Write(0x47FF, 1), [1, 2, 7, 8]),
+        (HostCall::Run(65_537), [1, 2, 10, 10]),
+        (HostCall::Run(65_536), [1, 2, 11, 11]),
+        (HostCall::Reset(2), [1, 2, 3, 3]),
+    ] {
+        for (step, (image, answer)) in images.into_iter().zip(answers).enumerate() {
+            let mut host = Host::new(loaded(P));
+            host.lend_image(image);
+            if step < 3 {
+                host.lend_arena(&[0x55; 53_247]);
+            }
+            let arena = host.arena().to_vec();
+            t.eq(&format!("{call:X?}, step {step}"), host.call(call), answer);
+            t.holds("it alters nothing", host.image() == image && host.arena() == arena);
+        }
+    }
+}
+
+/// "host load: 1 4 5 6 7"; "A host load does not read the lent image: any 307 bytes will do."
+fn loads(t: &mut Checks) {
+    let wrong = Load { mapper: 20, ..P };
+    for (len, load, answer) in [(308, wrong, 1), (LEN, wrong, 4), (LEN, Load { battery: 0, ..P }, 6), (LEN, P, 7)] {
+        let mut host = Host::new(loaded(N175));
+        host.lend_image(&vec![0xFF; len]);
+        t.eq("a refused load", host.call(HostCall::Load(load)), answer);
+        t.holds("it alters nothing", host.image() == vec![0xFF; len] && host.arena() == loaded(N175).arena());
+    }
+    let mut host = Host::new(loaded(N175));
+    host.lend_image(&[0xFF; LEN]);
+    host.lend_arena(&[0xFF; 53_248]);
+    t.eq("a load over any bytes", host.call(HostCall::Load(P)), 0);
+    t.holds("its image is a fresh state's", host.image() == image::encode(&loaded(P)));
+    t.holds("its arena is zero", host.arena() == [0; 53_248]);
 }

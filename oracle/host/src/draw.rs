@@ -1,0 +1,98 @@
+//! Random arguments of calls.
+
+use crate::pair::{Compared, Pair};
+use oracle::{
+    host::HostCall,
+    layout::PAGE,
+    rng::Rng,
+    session::{RUN_LIMIT, samples_made},
+};
+
+/// Numbers that are a yes.
+const YES: [u64; 6] = [1, 2, 256, 1 << 32, 1 << 63, u64::MAX];
+
+const FIRST: u64 = 0x4800;
+/// Each register range is 800 long.
+const RANGE: u64 = 0x800;
+
+/// The same yes or no, by any of its numbers.
+pub fn yes_no(rng: &mut Rng, number: u64) -> u64 {
+    if number == 0 { 0 } else { rng.pick(&YES) }
+}
+
+/// An address from 4800 on: the first or last byte of a range or page, or any.
+pub fn address(rng: &mut Rng) -> u16 {
+    let any = rng.between(FIRST, 0xFFFF);
+    let at = match rng.below(8) {
+        0..2 => any / RANGE * RANGE,
+        2..4 => any / RANGE * RANGE + RANGE - 1,
+        4 => any / PAGE * PAGE,
+        5 => any / PAGE * PAGE + PAGE - 1,
+        _ => any,
+    };
+    at as u16
+}
+
+/// A byte, at times one at which a register does something else.
+fn value(rng: &mut Rng) -> u8 {
+    if rng.once_in(3) { rng.pick(&[0x00, 0x01, 0x3F, 0x40, 0x7F, 0x80, 0xC0, 0xDF, 0xE0, 0xE1, 0xFE, 0xFF]) } else { rng.byte() }
+}
+
+fn clocks(rng: &mut Rng) -> u64 {
+    match rng.below(32) {
+        0 => rng.pick(&[RUN_LIMIT, RUN_LIMIT, RUN_LIMIT - 1, 40_000]),
+        1 => rng.between(600, 10_000),
+        2..4 => 0,
+        4..10 => rng.pick(&[1, 14, 15, 16]),
+        _ => rng.between(1, 300),
+    }
+}
+
+/// A call that nothing in its numbers refuses.
+pub fn fit_call(rng: &mut Rng) -> HostCall {
+    match rng.below(16) {
+        0..8 => HostCall::Write(address(rng), value(rng)),
+        8..11 => HostCall::Read(address(rng)),
+        11..15 => HostCall::Run(clocks(rng)),
+        _ => HostCall::Reset(rng.below(2)),
+    }
+}
+
+pub fn make_fit(pair: &mut Pair, rng: &mut Rng) -> Compared<u64> {
+    let call = fit_call(rng);
+    make(pair, rng, call)
+}
+
+/// Makes a call; a run is first lent samples, by one of the lengths.
+pub fn make(pair: &mut Pair, rng: &mut Rng, call: HostCall) -> Compared<u64> {
+    if let HostCall::Run(clocks) = call {
+        lend_room(pair, rng, clocks);
+    }
+    pair.call(call)
+}
+
+/// Lengths of what is lent for samples: a name for each.
+const ROOMS: [&str; 6] = [
+    "runs lent exactly enough bytes",
+    "runs lent one byte less",
+    "runs lent three bytes more",
+    "runs lent up to 40 bytes more",
+    "runs lent no bytes",
+    "runs lent 20,000 or a million bytes",
+];
+
+fn lend_room(pair: &mut Pair, rng: &mut Rng, clocks: u64) {
+    let made = pair.host().session().map_or(0, |session| samples_made(&session.chip, clocks.min(RUN_LIMIT)));
+    let enough = 4 * made as usize;
+    let room = rng.pick(&[0, 0, 0, 0, 0, 0, 0, 0, 0, 0, 1, 1, 2, 2, 3, 3, 4, 4, 5]);
+    match room {
+        0 => pair.lend_samples(enough),
+        1 => pair.lend_samples(enough.saturating_sub(1)),
+        2 => pair.lend_samples(enough + 3),
+        3 => pair.lend_samples(enough + rng.between(1, 40) as usize),
+        4 => pair.lend_samples(0),
+        _ => pair.lend_samples(if rng.once_in(16) { 1 << 20 } else { 20_000 }),
+    }
+    pair.counts.want(&ROOMS);
+    pair.counts.reach(ROOMS[room]);
+}

@@ -1,0 +1,125 @@
+//! Random sessions from a load on: the oracle's generator makes the calls, and those that no host has are what a host does by itself.
+
+use crate::{
+    draw::{self, yes_no},
+    pair::{Compared, Pair},
+};
+use oracle::{
+    generate::generate,
+    host::HostCall,
+    image,
+    layout::{BATTERY_LIMIT, CHR_LIMIT, CIRAM_LIMIT, Load, PAGE, PRG_RAM_LIMIT, PRG_ROM_LIMIT},
+    rng::Rng,
+    session::Session,
+    text::Call,
+};
+
+/// Calls that the generator makes at a time.
+const PIECE: usize = 2_000;
+
+const WANTED: [&str; 5] = ["loads of a 163", "loads of a detecting 163", "loads of a 175", "loads of a 340", "loads of an Unknown"];
+
+/// Plays sessions until that many calls are made.
+pub fn play(pair: &mut Pair, rng: &mut Rng, calls: u64) -> Compared<()> {
+    pair.counts.want(&WANTED);
+    let end = pair.counts.calls() + calls;
+    // Whether the host changes state and arena by itself in this session.
+    let mut edits = false;
+    while pair.counts.calls() < end {
+        for call in generate(rng.number(), PIECE).calls {
+            match call {
+                Call::Load(named) => {
+                    load(pair, rng, named)?;
+                    edits = rng.once_in(2);
+                }
+                call => step(pair, rng, call, edits)?,
+            }
+        }
+    }
+    Ok(())
+}
+
+fn step(pair: &mut Pair, rng: &mut Rng, call: Call, edits: bool) -> Compared<()> {
+    let call = match call {
+        Call::Read(addr) | Call::Peek(addr) => HostCall::Read(addr),
+        Call::Write(addr, val) => HostCall::Write(addr, val),
+        Call::Run { clocks, .. } => HostCall::Run(clocks),
+        Call::ResetSoft => HostCall::Reset(0),
+        Call::ResetHard => HostCall::Reset(1),
+        other => {
+            if edits {
+                pair.edit(|session| edit(session, other));
+            }
+            return Ok(());
+        }
+    };
+    draw::make(pair, rng, call).map(|_| ())
+}
+
+/// A call that no host has. A refused one alters nothing.
+fn edit(session: &mut Session, call: Call) {
+    let _ = match call {
+        Call::ChrWrite(addr, val) => session.chr_write(addr, val),
+        Call::Fill(region, bytes) => session.fill(region, &bytes),
+        Call::RegionWrite(region, offset, val) => session.region_write(region, offset, val),
+        Call::SyncBattery => session.sync_battery(),
+        Call::RestoreBattery => session.restore_battery(),
+        _ => Ok(()),
+    };
+}
+
+/// A refused load leaves the session in place. An accepted one is lent any bytes, and then bytes are put into the arena, as from a ROM file.
+fn load(pair: &mut Pair, rng: &mut Rng, named: Load) -> Compared<()> {
+    let mut load = Load { in_database: yes_no(rng, named.in_database), chr_ram: yes_no(rng, named.chr_ram), ..named };
+    if rng.once_in(32) {
+        near_limit(rng, &mut load);
+    }
+    let len = load.arena_len() as usize;
+    if Session::load(&load, len as u64).is_err() {
+        return pair.call(HostCall::Load(load)).map(|_| ());
+    }
+    if rng.once_in(2) {
+        pair.lend_image(&rng.bytes(image::LEN));
+    }
+    if rng.once_in(8) {
+        let other = rng.pick(&[len - 1, len + 1, len - PAGE as usize, len + PAGE as usize]);
+        pair.lend_arena(&rng.bytes(other));
+        pair.call(HostCall::Load(load))?;
+    }
+    pair.lend_arena(&rng.bytes(len));
+    pair.call(HostCall::Load(load))?;
+    let bytes = rng.bytes(len);
+    pair.edit(|session| session.lend_arena(bytes.into()));
+    pair.counts.reach(loaded(&load));
+    Ok(())
+}
+
+/// Which of the wanted loads an accepted one is.
+fn loaded(load: &Load) -> &'static str {
+    let [fixed, detecting, n175, n340, unknown] = WANTED;
+    match (load.mapper, load.submapper) {
+        (19, _) if load.in_database != 0 => fixed,
+        (19, _) => detecting,
+        (_, 1) => n175,
+        (_, 2) => n340,
+        _ => unknown,
+    }
+}
+
+/// Sets one size, or all of them, to the limit or just below it.
+fn near_limit(rng: &mut Rng, load: &mut Load) {
+    let sizes = [
+        (&mut load.prg_rom, PRG_ROM_LIMIT),
+        (&mut load.prg_ram, PRG_RAM_LIMIT),
+        (&mut load.battery, BATTERY_LIMIT),
+        (&mut load.chr, CHR_LIMIT),
+        (&mut load.ciram, CIRAM_LIMIT),
+    ];
+    let all = rng.once_in(4);
+    let one = rng.below(5) as usize;
+    for (place, (size, limit)) in sizes.into_iter().enumerate() {
+        if all || place == one {
+            *size = limit - rng.pick(&[0, 0, 0, 1, PAGE - 1]);
+        }
+    }
+}
