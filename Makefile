@@ -3,6 +3,7 @@
 # make demo      a C host that plays a tune on the board: builds and runs examples/tune.c and says where its WAV file is
 # make test      the gate: every proof and must-fail edit from nothing, the C calls, and the comparison with the Rust where its sources are found
 # make c-host    the header, the C calls, the README's example, the demonstration and the installed files alone
+# make promises  looks up what docs/PROMISES.md names
 # make replays   replays the recorded sessions alone
 # make compare   the comparison with the Rust alone
 # make sessions  records the sessions anew by the Rust
@@ -13,7 +14,7 @@ PREFIX ?= /usr/local
 archive := target/staticlib/libhost.a
 sources := crates.txt $(shell find crates -type f -not -path '*/must-fail/*')
 
-.PHONY: all install demo test c-host replays compare sessions bench fmt
+.PHONY: all install demo test promises c-host replays compare sessions bench fmt
 all: $(archive)
 
 $(archive): $(sources)
@@ -33,6 +34,9 @@ test:
 
 c-host: $(archive)
 	@scripts/c-host
+
+promises:
+	@scripts/promises
 
 replays:
 	@scripts/replays

@@ -1,0 +1,117 @@
+//! The archive and the unchanged Rust on the same work, in one process: every answer and sample is compared first, then both are timed.
+
+mod archive;
+mod reference;
+
+use archive::Archive;
+use reference::Reference;
+use std::{hint::black_box, time::Instant};
+
+pub const PRG_ROM: usize = 32_768;
+pub const PRG_RAM: usize = 8_192;
+pub const RESERVE: usize = 128;
+pub const CHR: usize = 8_192;
+pub const CIRAM: usize = 2_048;
+/// The zero page and the five regions.
+pub const ARENA: usize = 1_024 + PRG_ROM + PRG_RAM + 1_024 + CHR + CIRAM;
+/// Of the longest run.
+pub const MOST_SAMPLES: usize = (14 + 65_536) / 15;
+
+const RUNS: [u64; 5] = [1, 15, 114, 29_781, 65_536];
+
+/// Register writes that turn on so many channels, with notes of their own, and leave the counter clear.
+fn tune(channels: u8) -> Vec<(u16, u8)> {
+    let mut writes = vec![(0xE000, 0x00), (0xF800, 0x80)];
+    let ram = (0..128u8).map(|place| match place {
+        0..64 => place.wrapping_mul(37) ^ place >> 3,
+        _ => match place % 8 {
+            0 => place.wrapping_mul(29),
+            2 => place.wrapping_mul(13),
+            4 => 0xE1,
+            6 => place / 2,
+            7 => (channels - 1) << 4 | 0x0F,
+            _ => 0,
+        },
+    });
+    writes.extend(ram.map(|byte| (0x4800, byte)));
+    writes
+}
+
+fn sides(channels: u8) -> (Archive, Reference) {
+    let (mut ours, mut theirs) = (Archive::new(), Reference::load());
+    assert_eq!(ours.load(), 0);
+    for (addr, val) in tune(channels) {
+        assert_eq!(ours.write(addr, val) & 0xFF, 0);
+        theirs.write(addr, val);
+    }
+    (ours, theirs)
+}
+
+fn compare(channels: u8) {
+    let (mut ours, mut theirs) = sides(channels);
+    for clocks in RUNS.into_iter().cycle().take(20) {
+        let answer = ours.run(clocks);
+        assert_eq!(answer, theirs.run_by_calls(clocks), "run of {clocks}");
+        let made = (answer >> 8 & 0xFF_FFFF) as usize;
+        for (bytes, sample) in ours.samples.chunks(4).zip(&theirs.samples).take(made) {
+            assert_eq!(bytes, sample.to_bits().to_be_bytes(), "a sample of a run of {clocks}");
+        }
+        assert_eq!(ours.read(0x4800), u64::from(theirs.read(0x4800)) << 8);
+    }
+}
+
+/// Nanoseconds a call, the least of several rounds.
+fn time(mut call: impl FnMut()) -> f64 {
+    let start = Instant::now();
+    call();
+    let once = start.elapsed().as_secs_f64().max(2e-8);
+    let calls = ((0.02 / once) as u64).clamp(1, 200_000);
+    let round = |call: &mut dyn FnMut()| {
+        let start = Instant::now();
+        (0..calls).for_each(|_| call());
+        start.elapsed().as_secs_f64() * 1e9 / calls as f64
+    };
+    (0..15).map(|_| round(&mut call)).fold(f64::INFINITY, f64::min)
+}
+
+fn runs(channels: u8) -> f64 {
+    println!("\n{channels} channel{}: a run of", if channels == 1 { "" } else { "s" });
+    let mut longest = 0.0;
+    for clocks in RUNS {
+        let (mut ours, mut theirs) = sides(channels);
+        let a = time(|| drop(black_box(ours.run(clocks))));
+        let r = time(|| drop(black_box(theirs.run_by_calls(clocks))));
+        let l = time(|| drop(black_box(theirs.run_in_a_loop(clocks))));
+        println!("{clocks:>8} {a:>12.0} {r:>12.0} {:>8.2} {l:>12.0} {:>8.2}", r / a, l / a);
+        longest = r;
+    }
+    longest
+}
+
+fn others(longest: f64) {
+    let (mut ours, mut theirs) = sides(8);
+    let line = |name: &str, a: f64, r: f64| println!("{name:>22} {a:>8.0} {r:>8.0}   1/{:.0}", longest / a);
+    println!("\nsingle calls, and their part of the Rust's 65,536 clocks at 8 channels");
+    let read = |ours: &mut Archive, addr| time(|| drop(black_box(ours.read(black_box(addr)))));
+    line("read of 8000", read(&mut ours, 0x8000), time(|| drop(black_box(theirs.read(black_box(0x8000))))));
+    line("read of 4800", read(&mut ours, 0x4800), time(|| drop(black_box(theirs.read(black_box(0x4800))))));
+    let mut bank = 0;
+    let a = time(|| {
+        bank ^= 1;
+        black_box(ours.write(0xE000, bank));
+    });
+    let r = time(|| {
+        bank ^= 1;
+        theirs.write(0xE000, black_box(bank));
+    });
+    line("write of E000, a bank", a, r);
+    line("load", time(|| drop(black_box(ours.load()))), time(|| drop(black_box(Reference::load()))));
+}
+
+fn main() {
+    [1, 8].into_iter().for_each(compare);
+    println!("answers and samples agree. ns a call: the archive, the Rust with one call for each clock and its ratio, the Rust in one loop and its ratio");
+    runs(1);
+    let longest = runs(8);
+    others(longest);
+}
