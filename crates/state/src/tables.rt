@@ -41,15 +41,15 @@ fn used_ok(used: usize, l: Layout) -> bool
 }
 
 // An entry of an arena of so many bytes. No test is skipped, so that many entries are tested at a time.
-fn entry_ok(bytes: usize, p: Page) -> bool
+fn entry_ok(bytes: u32, p: Page) -> bool
     requires { ⌜ bytes ≤ 858112 ⌝ }
     ensures { λ r. ⌜ r ≡ entryOk bytes p ⌝ }
 {
-    let offset = p.offset();
+    let offset = p.0 % 0x4000_0000;
     (offset % 1024 == 0) & ((offset < bytes) & (p.0 / 0x4000_0000 % 2 != 1))
 }
 
-fn prg_ok(bytes: usize, pages: [Page; 64]) -> bool
+fn prg_ok(bytes: u32, pages: [Page; 64]) -> bool
     requires { ⌜ bytes ≤ 858112 ⌝ }
     ensures { λ r. ⌜ r ≡ every 64 (entryTest bytes pages) ⌝ }
 {
@@ -63,7 +63,7 @@ fn prg_ok(bytes: usize, pages: [Page; 64]) -> bool
     ok
 }
 
-fn chr_ok(bytes: usize, pages: [Page; 16]) -> bool
+fn chr_ok(bytes: u32, pages: [Page; 16]) -> bool
     requires { ⌜ bytes ≤ 858112 ⌝ }
     ensures { λ r. ⌜ r ≡ every 16 (entryTest bytes pages) ⌝ }
 {
@@ -87,7 +87,7 @@ pub fn memory_ok(m: Memory) -> bool
     if !used_ok(m.battery_ext_len, layout) {
         return false;
     }
-    let bytes = layout.arena_len();
+    let bytes = layout.arena_len() as u32;
     let prg = m.prg_pages;
     if !prg_ok(bytes, prg) {
         return false;

@@ -24,6 +24,9 @@ returns-2 c = rw (sym (c .before .before .before .layout-ok .ensures) ∙ was-tr
 arena-len-requires : tie.Need-arena-len-requires
 arena-len-requires c κs = layout-good _ (sym (c .before .before .before .layout-ok .ensures) ∙ was-true _ (c .before .before .if1 .left))
 
+cast-bytes : tie.Need-cast-bytes
+cast-bytes c = search needs
+
 prg-ok-requires : tie.Need-prg-ok-requires
 prg-ok-requires c κs = search needs
 
@@ -47,6 +50,7 @@ memory-ok-spec =
     used-ok-requires
     returns-2
     arena-len-requires
+    cast-bytes
     prg-ok-requires
     returns-3
     chr-ok-requires
