@@ -1,13 +1,16 @@
 -- The Rust's `update_banks`: the page tables by the registers and the layout alone, as steps of the memory, in the Rust's order.
-use Prim.Native.Nat.{ℕ, zero, suc, _+_, _*_}
+use Prim.Native.Nat.{ℕ, zero, suc, _+_, _*_, _/_}
 use mathlib.Core.Bool.{Bool, true, false, cond}
+use mathlib.Core.List.{List}
 use lib.Dec.{ltb}
 use lib.IntN.{pos, negsuc}
 use lib.ListN.{getD}
 use Rattle.memory.specs.declared.Memory.{Memory}
+use Rattle.memory.specs.declared.layout.Region.{Region}
 use Rattle.memory.specs.declared.layout.Src.{Src}
+use Rattle.memory.specs.declared.page.Page.{Page}
 use Rattle.memory.specs.declared.layout.Src.the-variants.{PrgRom, PrgRam, Chr, CiRam}
-use Rattle.memory.specs.Windows.{mapPrg, mapChr, unmapPrg, setPrgWritable}
+use Rattle.memory.specs.Windows.{mapPages, mapPrg, mapChr, unmapPrg, setPrgWritable}
 use Rattle.memory.specs.Mirroring.{setMirroring}
 use Rattle.chip.specs.declared.namco163.Namco163.{Namco163}
 use Rattle.chip.specs.Namco163.{is163}
@@ -18,7 +21,13 @@ abbrev pub slotSrc : Bool → Src
 slotSrc true = CiRam
 slotSrc false = Chr
 
--- a bank in the 1 KiB slot of 0000..2FFF; 3000..3FFF shows again what 2000..2FFF shows
+-- the PPU's table after a bank of a region is in the 1 KiB slot of 0000..2FFF; 3000..3FFF shows again what 2000..2FFF shows
+unfoldable pub slotPages : Region → ℕ → ℕ → List Page → List Page
+slotPages r slot bank pages =
+    let low = mapPages 16 r 1024 (pos bank) (slot * 1024 / 1024) pages in
+    cond (ltb slot 8) low (mapPages 16 r 1024 (pos bank) ((slot * 1024 + 0x1000) / 1024) low)
+
+-- the same of a memory
 unfoldable pub mapSlot : Memory → ℕ → ℕ → Bool → Memory
 mapSlot m slot bank ciram =
     let low = mapChr m (slot * 1024) 1024 (pos bank) (slotSrc ciram) in

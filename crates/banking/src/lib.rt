@@ -1,41 +1,38 @@
 // The page tables by the registers.
 use chip::namco163::Namco163;
 use memory::Memory;
+use memory::layout::Region;
 use memory::layout::Src;
+use memory::page::Page;
+use memory::windows::mapped_chr_pages;
 ghost use mathlib.Core.Path.{_≡_};
-ghost use Prim.Native.Nat.{_≤_, _<_};
+ghost use mathlib.Core.Bool.{cond};
+ghost use Prim.Native.Nat.{_+_, _≤_, _<_};
+ghost use lib.ListN.{length};
 ghost use Rattle.memory.specs.Memory.{Sized};
-ghost use Rattle.banking.specs.Banking.{slotSrc, mapSlot, mapSlots, mapChrTable, mapBank, mapRom, mapWorkRam, updateBanks};
+ghost use Rattle.banking.specs.Banking.{slotPages, mapSlots, mapChrTable, mapBank, mapRom, mapWorkRam, updateBanks};
 
-// The region that a CHR slot shows.
-fn slot_src(ciram: bool) -> Src
-    ensures { λ r. ⌜ r ≡ slotSrc ciram ⌝ }
+// The PPU's table after a slot shows a bank of a region. Only the table is handed on, since a memory is long.
+fn slot_pages(pages: [Page; 16], region: Region, slot: u16, bank: u8) -> [Page; 16]
+    requires { ⌜ (region .start + region .len ≤ 858112) × (slot < 12) ⌝ }
+    ensures { λ r. ⌜ (r ≡ slotPages region slot bank pages) × (length r ≡ 16) ⌝ }
 {
-    if ciram {
-        return Src::CiRam;
-    }
-    Src::Chr
-}
-
-fn map_slot(m: Memory, slot: u16, bank: u8, ciram: bool) -> Memory
-    requires { ⌜ (Sized m) × (slot < 12) ⌝ }
-    ensures { λ r. ⌜ r ≡ mapSlot m slot bank ciram ⌝ }
-{
-    let low = m.map_chr(
-        slot * 1024,
-        Memory::CHR_WINDOW,
-        bank as i32,
-        slot_src(ciram),
-    );
+    let size = Memory::CHR_WINDOW;
+    let low = mapped_chr_pages(pages, slot * 1024, size, bank as i32, region);
     if slot < 8 {
         return low;
     }
-    low.map_chr(
-        slot * 1024 + 0x1000,
-        Memory::CHR_WINDOW,
-        bank as i32,
-        slot_src(ciram),
-    )
+    mapped_chr_pages(low, slot * 1024 + 0x1000, size, bank as i32, region)
+}
+
+// The region that a CHR slot shows.
+fn slot_region(ciram: bool, chr: Region, nametables: Region) -> Region
+    ensures { λ r. ⌜ r ≡ cond ciram nametables chr ⌝ }
+{
+    if ciram {
+        return nametables;
+    }
+    chr
 }
 
 // The first n slots.
@@ -43,16 +40,20 @@ fn map_slots(chip: Namco163, m: Memory, n: u16) -> Memory
     requires { ⌜ (Sized m) × (n ≤ 12) ⌝ }
     ensures { λ r. ⌜ r ≡ mapSlots chip n m ⌝ }
 {
-    let mut out = m;
+    let layout = m.layout;
+    let chr = layout.region(m.battery_ext_len, Src::Chr);
+    let nametables = layout.region(m.battery_ext_len, Src::CiRam);
+    let mut pages = m.chr_pages;
     let mut slot: u16 = 0;
     while slot < n {
         let i = slot as usize;
-        let bank = chip.chr_banks[i];
-        let ciram = chip.nt_bank_enable[i];
-        let next = map_slot(out, slot, bank, ciram);
-        out = next;
+        let region = slot_region(chip.nt_bank_enable[i], chr, nametables);
+        let next = slot_pages(pages, region, slot, chip.chr_banks[i]);
+        pages = next;
         slot += 1;
     }
+    let mut out = m;
+    out.chr_pages = pages;
     out
 }
 

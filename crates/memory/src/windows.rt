@@ -4,8 +4,8 @@ use crate::layout::Region;
 use crate::layout::Src;
 use crate::page::Page;
 ghost use mathlib.Core.Path.{_≡_};
-ghost use Prim.Native.Nat.{_+_, _*_, _^_, _≤_, _<_};
-ghost use Rattle.memory.specs.Windows.{banksOf, modulo, windowBase, regionPage, withFlag, Shown, WindowSize, showPages, unmapPages, setWritable, mapPrg, mapChr, unmapPrg, setPrgWritable};
+ghost use Prim.Native.Nat.{_+_, _*_, _/_, _^_, _≤_, _<_};
+ghost use Rattle.memory.specs.Windows.{banksOf, modulo, windowBase, regionPage, withFlag, Shown, WindowSize, showPages, mapPages, unmapPages, setWritable, mapPrg, mapChr, unmapPrg, setPrgWritable};
 ghost use Rattle.memory.specs.Memory.{Sized};
 ghost use lib.IntN.{pos};
 ghost use lib.ListN.{length};
@@ -105,6 +105,21 @@ fn show_chr_pages(
     out
 }
 
+// The PPU's table after a window of it shows a bank of a region.
+pub fn mapped_chr_pages(
+    pages: [Page; 16],
+    addr: u16,
+    size: usize,
+    bank: i32,
+    region: Region,
+) -> [Page; 16]
+    requires { ⌜ (region .start + region .len ≤ 858112) × (WindowSize size) ⌝ }
+    ensures { λ r. ⌜ (r ≡ mapPages 16 region size bank (addr / 1024) pages) × (length r ≡ 16) ⌝ }
+{
+    let base = window_base(region.len, size, bank);
+    show_chr_pages(pages, (addr / 1024) as usize, size, base, region)
+}
+
 fn unmap_pages(pages: [Page; 64], slot: usize, size: usize) -> [Page; 64]
     requires { ⌜ (WindowSize size) × (slot < 64) ⌝ }
     ensures { λ r. ⌜ (r ≡ unmapPages 64 size slot pages) × (length r ≡ 64) ⌝ }
@@ -158,9 +173,8 @@ impl Memory {
     {
         let layout = self.layout;
         let region = layout.region(self.battery_ext_len, src);
-        let base = window_base(region.len, size, bank);
         let pages = self.chr_pages;
-        let mapped = show_chr_pages(pages, (addr / 1024) as usize, size, base, region);
+        let mapped = mapped_chr_pages(pages, addr, size, bank, region);
         let mut out = self;
         out.chr_pages = mapped;
         out

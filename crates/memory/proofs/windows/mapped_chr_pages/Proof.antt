@@ -1,0 +1,25 @@
+-- The pages of the region from the bank's base on.
+use mir.Facts.{toZ-ofZ}
+use Rattle.memory.specs.Windows.{mapPages}
+use borrow.Author.Needs.{needs}
+use Rattle.memory.proofs.windows.mapped_chr_pages.Statement.{statement}
+use Rattle.memory.proofs.windows.mapped_chr_pages.Tie as tie
+
+window-base-requires : tie.Need-window-base-requires
+window-base-requires c κs = search needs
+
+cast-show-chr-pages : tie.Need-cast-show-chr-pages
+cast-show-chr-pages c = search needs
+
+show-chr-pages-requires : tie.Need-show-chr-pages-requires
+show-chr-pages-requires c κs = search needs
+
+returns : tie.Need-returns
+unfolding mapPages
+returns c = (
+  rw (c .show-chr-pages .ensures .0, c .before .window-base .ensures .0, toZ-ofZ (c .before .before .fits .bank)),
+  c .show-chr-pages .ensures .1,
+)
+
+pub mapped-chr-pages-spec : {M : Type 1} → statement M
+mapped-chr-pages-spec = tie.close (tie.spec window-base-requires cast-show-chr-pages show-chr-pages-requires returns)
