@@ -61,7 +61,8 @@ fn compare(channels: u8) {
 }
 
 /// Nanoseconds a call, the least of several rounds.
-fn time(mut call: impl FnMut()) -> f64 {
+fn time<T>(mut call: impl FnMut() -> T) -> f64 {
+    let mut call = || _ = black_box(call());
     let start = Instant::now();
     call();
     let once = start.elapsed().as_secs_f64().max(2e-8);
@@ -75,13 +76,14 @@ fn time(mut call: impl FnMut()) -> f64 {
 }
 
 fn runs(channels: u8) -> f64 {
-    println!("\n{channels} channel{}: a run of", if channels == 1 { "" } else { "s" });
+    println!("\n{channels} channel{}", if channels == 1 { "" } else { "s" });
+    println!("{:>8} {:>12} {:>12} {:>8} {:>12} {:>8}", "a run of", "archive", "by calls", "ratio", "in a loop", "ratio");
     let mut longest = 0.0;
     for clocks in RUNS {
         let (mut ours, mut theirs) = sides(channels);
-        let a = time(|| drop(black_box(ours.run(clocks))));
-        let r = time(|| drop(black_box(theirs.run_by_calls(clocks))));
-        let l = time(|| drop(black_box(theirs.run_in_a_loop(clocks))));
+        let a = time(|| ours.run(clocks));
+        let r = time(|| theirs.run_by_calls(clocks));
+        let l = time(|| theirs.run_in_a_loop(clocks));
         println!("{clocks:>8} {a:>12.0} {r:>12.0} {:>8.2} {l:>12.0} {:>8.2}", r / a, l / a);
         longest = r;
     }
@@ -91,26 +93,28 @@ fn runs(channels: u8) -> f64 {
 fn others(longest: f64) {
     let (mut ours, mut theirs) = sides(8);
     let line = |name: &str, a: f64, r: f64| println!("{name:>22} {a:>8.0} {r:>8.0}   1/{:.0}", longest / a);
-    println!("\nsingle calls, and their part of the Rust's 65,536 clocks at 8 channels");
-    let read = |ours: &mut Archive, addr| time(|| drop(black_box(ours.read(black_box(addr)))));
-    line("read of 8000", read(&mut ours, 0x8000), time(|| drop(black_box(theirs.read(black_box(0x8000))))));
-    line("read of 4800", read(&mut ours, 0x4800), time(|| drop(black_box(theirs.read(black_box(0x4800))))));
+    println!("\nSingle calls, and the archive's time as part of the Rust's for 65,536 clocks at 8 channels");
+    println!("{:>22} {:>8} {:>8}", "", "archive", "Rust");
+    let read = |ours: &mut Archive, addr| time(|| ours.read(black_box(addr)));
+    line("read of 8000", read(&mut ours, 0x8000), time(|| theirs.read(black_box(0x8000))));
+    line("read of 4800", read(&mut ours, 0x4800), time(|| theirs.read(black_box(0x4800))));
     let mut bank = 0;
     let a = time(|| {
         bank ^= 1;
-        black_box(ours.write(0xE000, bank));
+        ours.write(0xE000, bank)
     });
     let r = time(|| {
         bank ^= 1;
         theirs.write(0xE000, black_box(bank));
     });
     line("write of E000, a bank", a, r);
-    line("load", time(|| drop(black_box(ours.load()))), time(|| drop(black_box(Reference::load()))));
+    line("load", time(|| ours.load()), time(Reference::load));
 }
 
 fn main() {
     [1, 8].into_iter().for_each(compare);
-    println!("answers and samples agree. ns a call: the archive, the Rust with one call for each clock and its ratio, the Rust in one loop and its ratio");
+    println!("Answers and samples agree. Times are ns a call; a ratio is the Rust's time divided by the archive's.");
+    println!("The Rust is stepped with one call for each clock, and then with all clocks in one loop.");
     runs(1);
     let longest = runs(8);
     others(longest);

@@ -34,13 +34,12 @@ use Rattle.range.proofs.Chip.{Keeps, after-read-keeps, write-keeps, res
 use Rattle.banking.specs.Banking.{updateBanks}
 use Rattle.range.proofs.Banking.{Kept as MemoryKept, update-banks-ranged, update-banks-kept, mask-multiple}
 use Rattle.state.specs.declared.State.{State}
-use Rattle.state.specs.State.{mapperOk, inRange, MemoryInRange}
+use Rattle.state.specs.State.{mapperOk, inRange, MemoryInRange, withChip}
 use Rattle.range.specs.Typed.{Typed}
 use Rattle.state.proofs.Every.{was-true}
 use Rattle.range.proofs.State.{mapper-in, in-state, state-in, levels-fit}
 use Rattle.namco163.specs.declared.calls.Written.{Written}
 use Rattle.refusals.specs.Refusals.{firstOf, resetChecks, arenaChecks, cpuChecks, fillChecks, batteryChecks, loadChecks}
-use Rattle.state.specs.State.{withChip}
 use Rattle.namco163.specs.Calls.{cpuRead, writeRegister, changes, refusedWrite, cpuWrite, cpuWriteArena, chrWriteArena, fillArena, regionWriteArena}
 use Rattle.battery.specs.Battery.{kindOf, resetState, syncArena, batteryBytes, restoreState}
 use Rattle.cartridge.specs.Load.{LoadFits, memoryAtLoad, freshState, loadArena}

@@ -20,10 +20,9 @@ use Rattle.chip.specs.declared.namco163.Namco163.{Namco163}
 use Rattle.chip.specs.Namco163.{is163, withRegs, withAudio}
 use Rattle.chip.specs.Clock.{clockCounter}
 use Rattle.state.specs.declared.State.{State}
-use Rattle.state.specs.State.{inRange}
+use Rattle.state.specs.State.{inRange, withChip}
 use Rattle.state.proofs.Every.{was-true}
 use Rattle.refusals.specs.Refusals.{Check, firstOf, stateCheck}
-use Rattle.state.specs.State.{withChip}
 use Rattle.clocks.specs.Clock.{chipClock, stateClock}
 use Rattle.clocks.specs.Run.{clocks, made, lengthCheck, roomCheck, runChecks, runGave}
 use Rattle.range.specs.Typed.{Typed}

@@ -3,8 +3,6 @@ use native.Mathlib.Omega.{arith}
 use borrow.Author.Needs.{needs}
 use Rattle.banking.specs.Banking.{mapRom}
 use Rattle.banking.proofs.Kept.{sized-prg}
-use Rattle.banking.specs.Banking.{mapRom}
-use Rattle.banking.proofs.Kept.{sized-prg}
 use Rattle.banking.proofs.map_rom.Statement.{statement}
 use Rattle.banking.proofs.map_rom.Tie as tie
 

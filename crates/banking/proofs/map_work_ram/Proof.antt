@@ -1,7 +1,6 @@
 -- `map_work_ram` meets its contract.
 use borrow.Author.Needs.{needs}
 use Rattle.banking.specs.Banking.{mapWorkRam}
-use Rattle.banking.specs.Banking.{mapWorkRam}
 use Rattle.banking.proofs.map_work_ram.Statement.{statement}
 use Rattle.banking.proofs.map_work_ram.Tie as tie
 

@@ -3,8 +3,6 @@ use Prim.Native.Nat.{_+_, _-_}
 use mathlib.Core.Path.{_≡_}
 use native.Mathlib.Omega.{arith}
 use borrow.Author.Needs.{needs}
-use Prim.Native.Nat.{_+_, _-_}
-use mathlib.Core.Path.{_≡_}
 use Rattle.battery.proofs.get_battery.Statement.{statement}
 use Rattle.battery.proofs.get_battery.Tie as tie
 

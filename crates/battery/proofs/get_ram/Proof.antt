@@ -2,11 +2,6 @@
 use Prim.Native.Nat.{_-_, _≤_}
 use mathlib.Core.Path.{_≡_, refl, _∙_}
 use native.Mathlib.Omega.{arith}
-use lib.ListN.{length}
-use lib.ListN.{length, take, length-set}
-use Rattle.battery.proofs.Copy.{copy-more, copy-all}
-use Prim.Native.Nat.{_-_, _≤_}
-use mathlib.Core.Path.{_≡_, refl, _∙_}
 use lib.ListN.{length, take, length-set}
 use Rattle.battery.proofs.Copy.{copy-more, copy-all}
 use Rattle.battery.proofs.get_ram.Statement.{statement}

@@ -1,6 +1,5 @@
 -- `kind_of` meets its contract.
 use borrow.Author.Tests.{eq-eqb, ne-eqb}
-use borrow.Author.Tests.{eq-eqb, ne-eqb}
 use Rattle.battery.proofs.kind_of.Statement.{statement}
 use Rattle.battery.proofs.kind_of.Tie as tie
 

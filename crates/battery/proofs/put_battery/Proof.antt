@@ -7,9 +7,6 @@ use Rattle.sound.proofs.audio.Typed.{typed}
 use Rattle.memory.specs.Bytes.{overlay}
 use Rattle.memory.proofs.Laws.Bytes.{overlay-back}
 use mathlib.Core.List.{_++_}
-use Prim.Native.Nat.{ℕ, _+_, _-_}
-use mathlib.Core.Path.{_≡_, subst}
-use lib.ListN.{take, drop}
 use Rattle.battery.proofs.put_battery.Statement.{statement}
 use Rattle.battery.proofs.put_battery.Tie as tie
 

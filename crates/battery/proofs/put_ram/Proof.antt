@@ -2,14 +2,9 @@
 use Prim.Native.Nat.{_-_, _≤_}
 use mathlib.Core.Path.{_≡_, refl, _∙_}
 use native.Mathlib.Omega.{arith}
-use lib.ListN.{length}
 use lib.ListN.{length, take, length-set}
 use Rattle.battery.proofs.Copy.{copy-more, copy-all}
 use Rattle.sound.proofs.audio.Typed.{typed}
-use Prim.Native.Nat.{_-_, _≤_}
-use mathlib.Core.Path.{_≡_, refl, _∙_}
-use lib.ListN.{length, take, length-set}
-use Rattle.battery.proofs.Copy.{copy-more, copy-all}
 use Rattle.battery.proofs.put_ram.Statement.{statement}
 use Rattle.battery.proofs.put_ram.Tie as tie
 

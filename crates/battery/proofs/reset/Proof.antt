@@ -3,9 +3,6 @@ use mathlib.Core.Path.{sym, _∙_}
 use borrow.Author.Needs.{needs}
 use borrow.Author.Tests.{ne-eqb}
 use Rattle.battery.specs.Battery.{resetState}
-use mathlib.Core.Path.{sym, _∙_}
-use borrow.Author.Tests.{ne-eqb}
-use Rattle.battery.specs.Battery.{resetState}
 use Rattle.battery.proofs.reset.Statement.{statement}
 use Rattle.battery.proofs.reset.Tie as tie
 

@@ -2,11 +2,6 @@
 use Prim.Native.Nat.{_-_, _≤_}
 use mathlib.Core.Path.{_≡_, refl, _∙_}
 use native.Mathlib.Omega.{arith}
-use lib.ListN.{length}
-use lib.ListN.{length, take, replicate, length-set}
-use Rattle.cartridge.proofs.Zeros.{clear-more, clear-all}
-use Prim.Native.Nat.{_-_, _≤_}
-use mathlib.Core.Path.{_≡_, refl, _∙_}
 use lib.ListN.{length, take, replicate, length-set}
 use Rattle.cartridge.proofs.Zeros.{clear-more, clear-all}
 use Rattle.cartridge.proofs.clear.Statement.{statement}

@@ -2,8 +2,6 @@
 use borrow.Author.Needs.{needs}
 use Rattle.cartridge.specs.Load.{freshState}
 use Rattle.cartridge.proofs.Laws.{sized-load}
-use Rattle.cartridge.specs.Load.{freshState}
-use Rattle.cartridge.proofs.Laws.{sized-load}
 use Rattle.cartridge.proofs.fresh_state.Statement.{statement}
 use Rattle.cartridge.proofs.fresh_state.Tie as tie
 

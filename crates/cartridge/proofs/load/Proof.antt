@@ -4,7 +4,6 @@ use native.Mathlib.Omega.{arith}
 use borrow.Author.Needs.{needs}
 use borrow.Author.Tests.{ne-eqb}
 use lib.ListN.{length}
-use lib.ListN.{length}
 use Rattle.cartridge.specs.Load.{loadAnswer, loadArena}
 use Rattle.cartridge.proofs.Laws.{load-good}
 use Rattle.cartridge.proofs.load.Statement.{statement}

@@ -2,8 +2,6 @@
 use borrow.Author.Needs.{needs}
 use borrow.Author.Tests.{eq-eqb, ne-eqb}
 use Rattle.cartridge.specs.Load.{memoryAtLoad}
-use borrow.Author.Tests.{eq-eqb, ne-eqb}
-use Rattle.cartridge.specs.Load.{memoryAtLoad}
 use Rattle.cartridge.proofs.memory_at_load.Statement.{statement}
 use Rattle.cartridge.proofs.memory_at_load.Tie as tie
 

@@ -20,11 +20,10 @@ use Rattle.sound.proofs.run.Laws.{run-cut, samples-cut, made-closed}
 use Rattle.chip.specs.declared.namco163.Namco163.{Namco163}
 use Rattle.chip.specs.Namco163.{is163, withRegs, withAudio}
 use Rattle.state.specs.declared.State.{State}
-use Rattle.state.specs.State.{withChip}
+use Rattle.state.specs.State.{withChip, inRange, chipOk, mapperOk, bankTest}
 use Rattle.clocks.specs.Clock.{soundSample, chipClock, stateClock, counterRun, counterRise}
 use Rattle.clocks.specs.Run.{clocks, made, runChecks}
 use borrow.Author.Tests.{leb-true, ltb-false}
-use Rattle.state.specs.State.{inRange, chipOk, mapperOk, bankTest}
 use Rattle.state.specs.Audio.{audioOk}
 use Rattle.state.specs.Every.{every}
 use Rattle.state.proofs.Every.{and-left, and-right, was-true}

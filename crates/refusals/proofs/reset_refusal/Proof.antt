@@ -2,8 +2,6 @@
 use borrow.Author.Needs.{needs}
 use borrow.Author.Tests.{lt-ltb, le-ltb}
 use Rattle.refusals.specs.Refusals.{firstOf}
-use borrow.Author.Tests.{lt-ltb, le-ltb}
-use Rattle.refusals.specs.Refusals.{firstOf}
 use Rattle.refusals.proofs.reset_refusal.Statement.{statement}
 use Rattle.refusals.proofs.reset_refusal.Tie as tie
 

@@ -7,12 +7,6 @@ use borrow.Author.Tests.{le-leb, lt-leb}
 use Rattle.state.specs.Every.{every}
 use Rattle.state.proofs.Every.{every-more, every-fails}
 use Rattle.state.specs.State.{bankTest}
-use Prim.Native.Nat.{_-_, _≤_}
-use mathlib.Core.Path.{_≡_, refl, sym}
-use mathlib.Core.Bool.{true}
-use borrow.Author.Tests.{le-leb, lt-leb}
-use Rattle.state.proofs.Every.{every-more, every-fails}
-use Rattle.state.specs.State.{bankTest}
 use Rattle.state.proofs.banks_ok.Statement.{statement}
 use Rattle.state.proofs.banks_ok.Tie as tie
 

@@ -1,6 +1,5 @@
 -- `mapper_ok` meets its contract.
 use borrow.Author.Tests.{eq-eqb, ne-eqb}
-use borrow.Author.Tests.{eq-eqb, ne-eqb}
 use Rattle.state.proofs.mapper_ok.Statement.{statement}
 use Rattle.state.proofs.mapper_ok.Tie as tie
 

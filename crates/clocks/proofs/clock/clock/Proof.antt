@@ -3,9 +3,6 @@ use mathlib.Core.Path.{sym, _∙_}
 use borrow.Author.Needs.{needs}
 use borrow.Author.Tests.{eq-eqb, ne-eqb}
 use Rattle.clocks.specs.Clock.{chipClock}
-use mathlib.Core.Path.{sym, _∙_}
-use borrow.Author.Tests.{eq-eqb, ne-eqb}
-use Rattle.clocks.specs.Clock.{chipClock}
 use Rattle.clocks.proofs.clock.clock.Statement.{statement}
 use Rattle.clocks.proofs.clock.clock.Tie as tie
 

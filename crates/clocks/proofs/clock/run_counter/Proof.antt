@@ -4,8 +4,6 @@ use mathlib.Core.Path.{_≡_, sym, _∙_}
 use native.Mathlib.Omega.{arith}
 use borrow.Author.Needs.{needs}
 use Rattle.clocks.proofs.clock.Laws.{low-stops, top-stops, run-stopped, rise-stopped, run-up, rise-up, run-top, rise-top}
-use Prim.Native.Nat.{suc, _+_, _-_, _≤_}
-use mathlib.Core.Path.{_≡_, sym, _∙_}
 use Rattle.clocks.proofs.clock.run_counter.Statement.{statement}
 use Rattle.clocks.proofs.clock.run_counter.Tie as tie
 

@@ -5,11 +5,6 @@ use borrow.Author.Needs.{needs}
 use borrow.Author.Tests.{eq-eqb, ne-eqb}
 use Rattle.clocks.specs.Run.{runGave}
 use Rattle.clocks.proofs.run.Laws.{sounds-state, sounds-samples, silent-state, silent-samples, rise-is, sound-ok, run-good}
-use mathlib.Core.Path.{sym, _∙_}
-use lib.ListN.{length}
-use borrow.Author.Tests.{eq-eqb, ne-eqb}
-use Rattle.clocks.specs.Run.{runGave}
-use Rattle.clocks.proofs.run.Laws.{sounds-state, sounds-samples, silent-state, silent-samples, rise-is, sound-ok, run-good}
 use Rattle.clocks.proofs.run.accepted_run.Statement.{statement}
 use Rattle.clocks.proofs.run.accepted_run.Tie as tie
 

@@ -3,9 +3,6 @@ use mathlib.Core.Path.{sym, _∙_}
 use borrow.Author.Needs.{needs}
 use borrow.Author.Tests.{eq-eqb, ne-eqb}
 use Rattle.clocks.proofs.run.Laws.{made-floor, counter-small}
-use mathlib.Core.Path.{sym, _∙_}
-use borrow.Author.Tests.{eq-eqb, ne-eqb}
-use Rattle.clocks.proofs.run.Laws.{made-floor, counter-small}
 use Rattle.clocks.proofs.run.samples_made.Statement.{statement}
 use Rattle.clocks.proofs.run.samples_made.Tie as tie
 

@@ -1,11 +1,10 @@
 -- `flags_word` meets its contract: flag after flag.
-use Rattle.bits.specs.Fields.{total, pack}
+use Rattle.bits.specs.Fields.{total, pack, bit}
 use mathlib.Core.Path.{_≡_, refl, sym, ap, _∙_}
 use mathlib.Core.List.{List, map}
 use Prim.Native.Nat.{ℕ, _+_, _-_, _*_, _^_, _<_, _≤_}
 use lib.ListN.{length, take, getD, replicate}
 use lib.Seq.{take-all}
-use Rattle.bits.specs.Fields.{bit}
 use Rattle.image.proofs.Parts.{flags-more, doubled, below-12}
 use native.Mathlib.Omega.{arith}
 use borrow.Author.Needs.{needs}

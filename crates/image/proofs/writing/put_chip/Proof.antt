@@ -1,14 +1,11 @@
 -- `put_chip` meets its contract: its parts stand one behind the other.
 use mathlib.Core.Path.{_≡_, refl, sym, ap, _∙_}
 use mathlib.Core.List.{List, [], _∷_, map}
-use lib.ListN.{length, getD, replicate}
+use lib.ListN.{length, getD, replicate, length-map}
 use Prim.Native.Nat.{_+_, _*_}
-use Rattle.bits.specs.Fields.{total, pack}
-use Rattle.bits.specs.Fields.{bit}
+use Rattle.bits.specs.Fields.{total, pack, bit}
 use Rattle.bits.proofs.cursor.Laws.{wrote-word}
-use Rattle.image.specs.Image.{joined, chipWidths, chipFields}
-use Rattle.image.specs.Image.{part}
-use lib.ListN.{length-map}
+use Rattle.image.specs.Image.{joined, chipWidths, chipFields, part}
 use Rattle.image.proofs.Parts.{wrote-to, wrote-end, wrote-part}
 use Rattle.image.proofs.Ranges.{bank-at}
 use native.Mathlib.Omega.{arith}

@@ -1,12 +1,10 @@
 -- `put_sound` meets its contract: its parts stand one behind the other.
 use mathlib.Core.Path.{_≡_, refl, sym, ap, _∙_}
 use mathlib.Core.List.{List, [], _∷_, map}
-use lib.ListN.{length, getD, replicate}
-use Rattle.bits.specs.Fields.{total, pack}
-use Rattle.bits.specs.Fields.{bit}
+use lib.ListN.{length, getD, replicate, length-map}
+use Rattle.bits.specs.Fields.{total, pack, bit}
 use Rattle.bits.proofs.cursor.Laws.{wrote-word}
 use Rattle.image.specs.Image.{byteAt, levelNum}
-use lib.ListN.{length-map}
 use Rattle.image.proofs.Parts.{wrote-to, wrote-part, wrote-done, byte-held}
 use Rattle.image.proofs.Ranges.{sound-facts}
 use native.Mathlib.Omega.{arith}

@@ -1,7 +1,6 @@
 -- `changes_between` meets its contract.
 use borrow.Author.Needs.{needs}
 use Rattle.namco163.specs.Calls.{changes}
-use Rattle.namco163.specs.Calls.{changes}
 use Rattle.namco163.proofs.calls.changes_between.Statement.{statement}
 use Rattle.namco163.proofs.calls.changes_between.Tie as tie
 

@@ -5,10 +5,6 @@ use borrow.Author.Tests.{ne-eqb}
 use Rattle.refusals.proofs.Laws.{cpu-good, backed, port-good}
 use Rattle.namco163.specs.Calls.{cpuPeek}
 use lib.ListN.{length}
-use mathlib.Core.Path.{sym, _∙_}
-use borrow.Author.Tests.{ne-eqb}
-use Rattle.refusals.proofs.Laws.{cpu-good, backed, port-good}
-use Rattle.namco163.specs.Calls.{cpuPeek}
 use Rattle.namco163.proofs.calls.cpu_peek.Statement.{statement}
 use Rattle.namco163.proofs.calls.cpu_peek.Tie as tie
 

@@ -4,10 +4,6 @@ use borrow.Author.Needs.{needs}
 use borrow.Author.Tests.{ne-eqb}
 use Rattle.refusals.proofs.Laws.{fill-good, backed}
 use Rattle.namco163.specs.Calls.{fillArena}
-use mathlib.Core.Path.{sym, _∙_}
-use borrow.Author.Tests.{ne-eqb}
-use Rattle.refusals.proofs.Laws.{fill-good, backed}
-use Rattle.namco163.specs.Calls.{fillArena}
 use Rattle.namco163.proofs.calls.fill.Statement.{statement}
 use Rattle.namco163.proofs.calls.fill.Tie as tie
 

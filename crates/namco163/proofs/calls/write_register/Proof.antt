@@ -1,7 +1,6 @@
 -- `write_register` meets its contract: the tables are mapped anew, or stay.
 use borrow.Author.Needs.{needs}
 use Rattle.namco163.specs.Calls.{writeRegister}
-use Rattle.namco163.specs.Calls.{writeRegister}
 use Rattle.namco163.proofs.calls.write_register.Statement.{statement}
 use Rattle.namco163.proofs.calls.write_register.Tie as tie
 

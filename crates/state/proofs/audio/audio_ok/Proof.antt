@@ -4,8 +4,6 @@ use borrow.Author.Needs.{needs}
 use borrow.Author.Tests.{le-leb, lt-leb}
 use Rattle.state.specs.Audio.{audioOk}
 use Rattle.state.proofs.Every.{was-false, was-true}
-use borrow.Author.Tests.{le-leb, lt-leb}
-use Rattle.state.specs.Audio.{audioOk}
 use Rattle.state.proofs.audio.audio_ok.Statement.{statement}
 use Rattle.state.proofs.audio.audio_ok.Tie as tie
 

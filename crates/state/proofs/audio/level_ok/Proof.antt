@@ -7,9 +7,6 @@ use borrow.Author.Needs.{needs}
 use borrow.Author.Tests.{le-leb, lt-leb}
 use Rattle.state.specs.Audio.{outOk, levelOk}
 use Rattle.state.proofs.AudioRange.{number, is-number, is-nan, whole-number}
-use mathlib.Core.Bool.{and-false}
-use borrow.Author.Tests.{le-leb, lt-leb}
-use Rattle.state.specs.Audio.{outOk, levelOk}
 use Rattle.state.proofs.audio.level_ok.Statement.{statement}
 use Rattle.state.proofs.audio.level_ok.Tie as tie
 

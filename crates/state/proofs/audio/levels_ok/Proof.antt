@@ -7,11 +7,6 @@ use borrow.Author.Needs.{needs}
 use Rattle.state.specs.Audio.{outputTest}
 use Rattle.state.specs.Every.{every}
 use Rattle.state.proofs.Every.{every-more, every-fails, was-false, was-true}
-use Prim.Native.Nat.{_-_, _≤_}
-use mathlib.Core.Path.{_≡_, refl, sym, _∙_}
-use mathlib.Core.Bool.{true}
-use Rattle.state.specs.Audio.{outputTest}
-use Rattle.state.proofs.Every.{every-more, every-fails}
 use Rattle.state.proofs.audio.levels_ok.Statement.{statement}
 use Rattle.state.proofs.audio.levels_ok.Tie as tie
 

@@ -2,9 +2,6 @@
 use mathlib.Core.Path.{sym}
 use Rattle.state.specs.Audio.{outOk}
 use Rattle.state.proofs.AudioRange.{number, is-number, is-nan}
-use mathlib.Core.Path.{sym}
-use Rattle.state.specs.Audio.{outOk}
-use Rattle.state.proofs.AudioRange.{number, is-number, is-nan}
 use Rattle.state.proofs.audio.out_ok.Statement.{statement}
 use Rattle.state.proofs.audio.out_ok.Tie as tie
 

@@ -7,12 +7,6 @@ use borrow.Author.Tests.{lt-ltb, le-ltb}
 use Rattle.state.specs.Audio.{phaseTest}
 use Rattle.state.specs.Every.{every}
 use Rattle.state.proofs.Every.{every-more, every-fails}
-use Prim.Native.Nat.{_-_, _≤_}
-use mathlib.Core.Path.{_≡_, refl, sym}
-use mathlib.Core.Bool.{true}
-use borrow.Author.Tests.{lt-ltb, le-ltb}
-use Rattle.state.specs.Audio.{phaseTest}
-use Rattle.state.proofs.Every.{every-more, every-fails}
 use Rattle.state.proofs.audio.phases_ok.Statement.{statement}
 use Rattle.state.proofs.audio.phases_ok.Tie as tie
 

@@ -5,9 +5,6 @@ use native.Mathlib.Nat.{div-le-self, lt-of-le-of-lt}
 use borrow.Author.Needs.{needs}
 use borrow.Author.Tests.{lt-ltb, le-ltb}
 use Rattle.state.specs.Audio.{wholePart}
-use Prim.Native.Nat.{_+_, _-_, _/_, _%_, _^_}
-use borrow.Author.Tests.{lt-ltb, le-ltb}
-use Rattle.state.specs.Audio.{wholePart}
 use Rattle.state.proofs.audio.whole_part.Statement.{statement}
 use Rattle.state.proofs.audio.whole_part.Tie as tie
 

@@ -1,8 +1,6 @@
 -- `layout_ok` meets its contract, test by test.
 use borrow.Author.Tests.{le-leb, lt-leb}
 use Rattle.state.specs.Tables.{layoutOk}
-use borrow.Author.Tests.{le-leb, lt-leb}
-use Rattle.state.specs.Tables.{layoutOk}
 use Rattle.state.proofs.tables.layout_ok.Statement.{statement}
 use Rattle.state.proofs.tables.layout_ok.Tie as tie
 

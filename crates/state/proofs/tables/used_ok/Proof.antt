@@ -1,8 +1,6 @@
 -- `used_ok` meets its contract.
 use borrow.Author.Tests.{eq-eqb, ne-eqb}
 use Rattle.state.specs.Tables.{usedOk}
-use borrow.Author.Tests.{eq-eqb, ne-eqb}
-use Rattle.state.specs.Tables.{usedOk}
 use Rattle.state.proofs.tables.used_ok.Statement.{statement}
 use Rattle.state.proofs.tables.used_ok.Tie as tie
 

@@ -7,9 +7,6 @@ use borrow.Author.Needs.{needs}
 use native.Mathlib.Omega.{arith}
 use Rattle.text.specs.Out.{putTo, putOne, putAll}
 use Rattle.text.proofs.Laws.Out.{put-next, put-end}
-use Prim.Native.Nat.{ℕ, _+_, _-_, _*_, _%_, _≤_, _<_}
-use mathlib.Core.Path.{_≡_, refl, sym, _∙_}
-use lib.ListN.{length, drop, getD}
 use Rattle.text.proofs.out.put_all.Statement.{statement}
 use Rattle.text.proofs.out.put_all.Tie as tie
 

@@ -1,7 +1,6 @@
 -- `Namco163::may_change` meets its contract.
 use borrow.Author.Needs.{needs}
 use Rattle.chip.specs.Detection.{mayChange}
-use Rattle.chip.specs.Detection.{mayChange}
 use Rattle.chip.proofs.namco163.Namco163.may_change.Statement.{statement}
 use Rattle.chip.proofs.namco163.Namco163.may_change.Tie as tie
 

@@ -1,7 +1,6 @@
 -- `Namco163::maybe_set_board` meets its contract.
 use borrow.Author.Needs.{needs}
 use Rattle.chip.specs.Detection.{maybeSetBoard}
-use Rattle.chip.specs.Detection.{maybeSetBoard}
 use Rattle.chip.proofs.namco163.Namco163.maybe_set_board.Statement.{statement}
 use Rattle.chip.proofs.namco163.Namco163.maybe_set_board.Tie as tie
 
