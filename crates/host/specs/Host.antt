@@ -11,7 +11,7 @@ use Rattle.bits.specs.Words.{bytesOf}
 use Rattle.memory.specs.declared.layout.MemoryLayout.{MemoryLayout}
 use Rattle.memory.specs.Layout.{arenaLen}
 use Rattle.state.specs.declared.State.{State}
-use Rattle.refusals.specs.Refusals.{Check, firstOf, kindCheck, arenaCheck, addressCheck, loadChecks}
+use Rattle.refusals.specs.Refusals.{Check, firstOf, kindCheck, arenaCheck, addressCheck, loadChecks, resetChecks, cpuChecks, stateCheck}
 use Rattle.refusals.specs.Refusals.{ifAccepted}
 use Rattle.namco163.specs.Calls.{cpuRead, cpuWrite, cpuWriteArena}
 use Rattle.battery.specs.Battery.{resetState}
@@ -64,6 +64,10 @@ hostLoad img arena mapper sub flags known sizes =
 abbrev pub resetGives : State → ℕ → Gives
 resetGives s kind = record { word = 0; image = imageOf (resetState s kind .state); lent = [] }
 
+-- the same on a state: what the image's own checks leave to do
+abbrev pub resetOn : State → List ℕ → ℕ → Gives
+resetOn s img kind = unlessRefused (resetChecks s kind) img [] (resetGives s kind)
+
 unfoldable pub hostReset : List ℕ → ℕ → Gives
 hostReset img kind = unlessRefused (onImage img (kindCheck kind ∷ [])) img [] (resetGives (stateIn img) kind)
 
@@ -76,6 +80,9 @@ cpuOwn s arena addr = arenaCheck (arenaLen (s .memory .layout)) (length arena) �
 abbrev pub readGives : State → List ℕ → ℕ → Gives
 readGives s arena addr = let r = cpuRead s arena addr in record { word = r .byte * 2 ^ 8; image = imageOf (r .state); lent = arena }
 
+abbrev pub readOn : State → List ℕ → List ℕ → ℕ → Gives
+readOn s img arena addr = unlessRefused (cpuChecks s (length arena) addr) img arena (readGives s arena addr)
+
 unfoldable pub hostRead : List ℕ → List ℕ → ℕ → Gives
 hostRead img arena addr = let s = stateIn img in unlessRefused (onImage img (cpuOwn s arena addr)) img arena (readGives s arena addr)
 
@@ -84,6 +91,9 @@ abbrev pub writeGives : State → List ℕ → ℕ → ℕ → Gives
 writeGives s arena addr v =
     let w = cpuWrite s arena addr v in
     record { word = w .changed .chr .mask * 2 ^ 8 + w .changed .prg .mask; image = imageOf (w .state); lent = cpuWriteArena s arena addr v }
+
+abbrev pub writeOn : State → List ℕ → List ℕ → ℕ → ℕ → Gives
+writeOn s img arena addr v = unlessRefused (cpuChecks s (length arena) addr) img arena (writeGives s arena addr v)
 
 unfoldable pub hostWrite : List ℕ → List ℕ → ℕ → ℕ → Gives
 hostWrite img arena addr v = let s = stateIn img in unlessRefused (onImage img (cpuOwn s arena addr)) img arena (writeGives s arena addr v)
@@ -116,6 +126,9 @@ runGives s samples n =
       image = imageOf (t .state);
       lent = each sampleBytes w ++ drop (4 * length w) samples;
     }
+
+abbrev pub runOn : State → List ℕ → List ℕ → ℕ → Gives
+runOn s img samples n = unlessRefused (stateCheck s ∷ runOwn s samples n) img samples (runGives s samples n)
 
 unfoldable pub hostRun : List ℕ → List ℕ → ℕ → Gives
 hostRun img samples n = let s = stateIn img in unlessRefused (onImage img (runOwn s samples n)) img samples (runGives s samples n)

@@ -16,13 +16,11 @@ use namco163::calls::cpu_write_of;
 use state::State;
 ghost use mathlib.Core.Path.{_≡_};
 ghost use mathlib.Core.Bool.{true};
-ghost use mathlib.Core.List.{[], _∷_};
 ghost use Prim.Native.Nat.{_≤_};
 ghost use lib.ListN.{length};
 ghost use Rattle.state.specs.State.{inRange};
-ghost use Rattle.refusals.specs.Refusals.{resetChecks, cpuChecks, stateCheck};
 ghost use Rattle.image.specs.Image.{imageBytes, imageOf};
-ghost use Rattle.host.specs.Host.{Gives, unlessRefused, sizesOf, hostLoad, resetGives, hostReset, readGives, hostRead, writeGives, hostWrite, runOwn, runGives, hostRun, HoldsRun};
+ghost use Rattle.host.specs.Host.{sizesOf, hostLoad, resetOn, hostReset, readOn, hostRead, writeOn, hostWrite, HoldsRun, runOn, hostRun};
 
 // A fresh state for a cartridge, and its arena filled with zeros. Sizes are in bytes; `in_database` and `chr_ram` are 0 for no.
 #[no_mangle]
@@ -67,8 +65,8 @@ pub extern "C" fn namco163_load(
 // A reset of a state, and its image.
 fn reset_state(s: State, kind: u64, image: &mut [u8]) -> u64
     requires { ⌜ length (now image) ≡ imageBytes ⌝ }
-    ensures { λ r. ⌜ r ≡ unlessRefused (resetChecks s kind) (now (image .entry)) [] (resetGives s kind) .word ⌝ }
-    ensures { λ r. ⌜ now (image .exit) ≡ unlessRefused (resetChecks s kind) (now (image .entry)) [] (resetGives s kind) .image ⌝ }
+    ensures { λ r. ⌜ r ≡ resetOn s (now (image .entry)) kind .word ⌝ }
+    ensures { λ r. ⌜ now (image .exit) ≡ resetOn s (now (image .entry)) kind .image ⌝ }
 {
     let altered = reset(s, kind);
     if altered.refusal != 0 {
@@ -96,8 +94,8 @@ pub extern "C" fn namco163_reset(image: &mut [u8], kind: u64) -> u64
 // A CPU read on the image's state, and the image of the state after it. Only the sound port at 4800..4FFF changes the state.
 fn read_state(s: State, arena: &[u8], addr: u16, image: &mut [u8]) -> u64
     requires { ⌜ (length (now image) ≡ imageBytes) × (now image ≡ imageOf s) × (inRange s ≡ true) ⌝ }
-    ensures { λ r. ⌜ r ≡ unlessRefused (cpuChecks s (length (now (arena .entry))) addr) (now (image .entry)) (now (arena .entry)) (readGives s (now (arena .entry)) addr) .word ⌝ }
-    ensures { λ r. ⌜ now (image .exit) ≡ unlessRefused (cpuChecks s (length (now (arena .entry))) addr) (now (image .entry)) (now (arena .entry)) (readGives s (now (arena .entry)) addr) .image ⌝ }
+    ensures { λ r. ⌜ r ≡ readOn s (now (image .entry)) (now (arena .entry)) addr .word ⌝ }
+    ensures { λ r. ⌜ now (image .exit) ≡ readOn s (now (image .entry)) (now (arena .entry)) addr .image ⌝ }
 {
     let got = cpu_read_of(true, s, arena, addr);
     if got.refusal != 0 {
@@ -129,9 +127,9 @@ pub extern "C" fn namco163_read(image: &mut [u8], arena: &[u8], addr: u16) -> u6
 // A CPU write on a state, and the image of the state after it.
 fn write_state(s: State, arena: &mut [u8], addr: u16, val: u8, image: &mut [u8]) -> u64
     requires { ⌜ (length (now image) ≡ imageBytes) × (inRange s ≡ true) ⌝ }
-    ensures { λ r. ⌜ r ≡ unlessRefused (cpuChecks s (length (now (arena .entry))) addr) (now (image .entry)) (now (arena .entry)) (writeGives s (now (arena .entry)) addr val) .word ⌝ }
-    ensures { λ r. ⌜ now (image .exit) ≡ unlessRefused (cpuChecks s (length (now (arena .entry))) addr) (now (image .entry)) (now (arena .entry)) (writeGives s (now (arena .entry)) addr val) .image ⌝ }
-    ensures { λ r. ⌜ now (arena .exit) ≡ unlessRefused (cpuChecks s (length (now (arena .entry))) addr) (now (image .entry)) (now (arena .entry)) (writeGives s (now (arena .entry)) addr val) .lent ⌝ }
+    ensures { λ r. ⌜ r ≡ writeOn s (now (image .entry)) (now (arena .entry)) addr val .word ⌝ }
+    ensures { λ r. ⌜ now (image .exit) ≡ writeOn s (now (image .entry)) (now (arena .entry)) addr val .image ⌝ }
+    ensures { λ r. ⌜ now (arena .exit) ≡ writeOn s (now (image .entry)) (now (arena .entry)) addr val .lent ⌝ }
 {
     let written = cpu_write_of(true, s, arena, addr, val);
     if written.refusal != 0 {
@@ -160,9 +158,9 @@ pub extern "C" fn namco163_write(image: &mut [u8], arena: &mut [u8], addr: u16, 
 // A run from a state by way of a buffer that holds what it makes, and the image of the state after it.
 fn run_through(s: State, n: u64, samples: &mut [u8], image: &mut [u8], buf: &mut [f32]) -> u64
     requires { ⌜ (length (now image) ≡ imageBytes) × (inRange s ≡ true) × HoldsRun s n (length (now buf)) ⌝ }
-    ensures { λ r. ⌜ r ≡ unlessRefused (stateCheck s ∷ runOwn s (now (samples .entry)) n) (now (image .entry)) (now (samples .entry)) (runGives s (now (samples .entry)) n) .word ⌝ }
-    ensures { λ r. ⌜ now (image .exit) ≡ unlessRefused (stateCheck s ∷ runOwn s (now (samples .entry)) n) (now (image .entry)) (now (samples .entry)) (runGives s (now (samples .entry)) n) .image ⌝ }
-    ensures { λ r. ⌜ now (samples .exit) ≡ unlessRefused (stateCheck s ∷ runOwn s (now (samples .entry)) n) (now (image .entry)) (now (samples .entry)) (runGives s (now (samples .entry)) n) .lent ⌝ }
+    ensures { λ r. ⌜ r ≡ runOn s (now (image .entry)) (now (samples .entry)) n .word ⌝ }
+    ensures { λ r. ⌜ now (image .exit) ≡ runOn s (now (image .entry)) (now (samples .entry)) n .image ⌝ }
+    ensures { λ r. ⌜ now (samples .exit) ≡ runOn s (now (image .entry)) (now (samples .entry)) n .lent ⌝ }
 {
     let ran = run_into(s, n, samples.len() / 4, buf);
     if ran.refusal != 0 {
@@ -177,9 +175,9 @@ fn run_through(s: State, n: u64, samples: &mut [u8], image: &mut [u8], buf: &mut
 // Of at most 1,920 clocks: a small buffer, since it is cleared first.
 fn run_short(s: State, n: u64, samples: &mut [u8], image: &mut [u8]) -> u64
     requires { ⌜ (length (now image) ≡ imageBytes) × (inRange s ≡ true) × (n ≤ 1920) ⌝ }
-    ensures { λ r. ⌜ r ≡ unlessRefused (stateCheck s ∷ runOwn s (now (samples .entry)) n) (now (image .entry)) (now (samples .entry)) (runGives s (now (samples .entry)) n) .word ⌝ }
-    ensures { λ r. ⌜ now (image .exit) ≡ unlessRefused (stateCheck s ∷ runOwn s (now (samples .entry)) n) (now (image .entry)) (now (samples .entry)) (runGives s (now (samples .entry)) n) .image ⌝ }
-    ensures { λ r. ⌜ now (samples .exit) ≡ unlessRefused (stateCheck s ∷ runOwn s (now (samples .entry)) n) (now (image .entry)) (now (samples .entry)) (runGives s (now (samples .entry)) n) .lent ⌝ }
+    ensures { λ r. ⌜ r ≡ runOn s (now (image .entry)) (now (samples .entry)) n .word ⌝ }
+    ensures { λ r. ⌜ now (image .exit) ≡ runOn s (now (image .entry)) (now (samples .entry)) n .image ⌝ }
+    ensures { λ r. ⌜ now (samples .exit) ≡ runOn s (now (image .entry)) (now (samples .entry)) n .lent ⌝ }
 {
     let mut buf = [0.0f32; FEW];
     run_through(s, n, samples, image, &mut buf)
@@ -187,9 +185,9 @@ fn run_short(s: State, n: u64, samples: &mut [u8], image: &mut [u8]) -> u64
 
 fn run_long(s: State, n: u64, samples: &mut [u8], image: &mut [u8]) -> u64
     requires { ⌜ (length (now image) ≡ imageBytes) × (inRange s ≡ true) ⌝ }
-    ensures { λ r. ⌜ r ≡ unlessRefused (stateCheck s ∷ runOwn s (now (samples .entry)) n) (now (image .entry)) (now (samples .entry)) (runGives s (now (samples .entry)) n) .word ⌝ }
-    ensures { λ r. ⌜ now (image .exit) ≡ unlessRefused (stateCheck s ∷ runOwn s (now (samples .entry)) n) (now (image .entry)) (now (samples .entry)) (runGives s (now (samples .entry)) n) .image ⌝ }
-    ensures { λ r. ⌜ now (samples .exit) ≡ unlessRefused (stateCheck s ∷ runOwn s (now (samples .entry)) n) (now (image .entry)) (now (samples .entry)) (runGives s (now (samples .entry)) n) .lent ⌝ }
+    ensures { λ r. ⌜ r ≡ runOn s (now (image .entry)) (now (samples .entry)) n .word ⌝ }
+    ensures { λ r. ⌜ now (image .exit) ≡ runOn s (now (image .entry)) (now (samples .entry)) n .image ⌝ }
+    ensures { λ r. ⌜ now (samples .exit) ≡ runOn s (now (image .entry)) (now (samples .entry)) n .lent ⌝ }
 {
     let mut buf = [0.0f32; MOST];
     run_through(s, n, samples, image, &mut buf)
@@ -197,9 +195,9 @@ fn run_long(s: State, n: u64, samples: &mut [u8], image: &mut [u8]) -> u64
 
 fn run_state(s: State, n: u64, samples: &mut [u8], image: &mut [u8]) -> u64
     requires { ⌜ (length (now image) ≡ imageBytes) × (inRange s ≡ true) ⌝ }
-    ensures { λ r. ⌜ r ≡ unlessRefused (stateCheck s ∷ runOwn s (now (samples .entry)) n) (now (image .entry)) (now (samples .entry)) (runGives s (now (samples .entry)) n) .word ⌝ }
-    ensures { λ r. ⌜ now (image .exit) ≡ unlessRefused (stateCheck s ∷ runOwn s (now (samples .entry)) n) (now (image .entry)) (now (samples .entry)) (runGives s (now (samples .entry)) n) .image ⌝ }
-    ensures { λ r. ⌜ now (samples .exit) ≡ unlessRefused (stateCheck s ∷ runOwn s (now (samples .entry)) n) (now (image .entry)) (now (samples .entry)) (runGives s (now (samples .entry)) n) .lent ⌝ }
+    ensures { λ r. ⌜ r ≡ runOn s (now (image .entry)) (now (samples .entry)) n .word ⌝ }
+    ensures { λ r. ⌜ now (image .exit) ≡ runOn s (now (image .entry)) (now (samples .entry)) n .image ⌝ }
+    ensures { λ r. ⌜ now (samples .exit) ≡ runOn s (now (image .entry)) (now (samples .entry)) n .lent ⌝ }
 {
     if n <= 1_920 {
         return run_short(s, n, samples, image);
