@@ -27,18 +27,18 @@ mirroring-else (suc (suc (suc zero))) a b c d = absurd (d refl)
 mirroring-else (suc (suc (suc (suc n)))) a b c d = refl
 
 -- a list of eight
-pub eight : (xs : List ℕ) → length xs ≡ 8
-    → xs ≡ getD xs 0 0 ∷ getD xs 1 0 ∷ getD xs 2 0 ∷ getD xs 3 0 ∷ getD xs 4 0 ∷ getD xs 5 0 ∷ getD xs 6 0 ∷ getD xs 7 0 ∷ []
-eight (a ∷ b ∷ c ∷ d ∷ e ∷ f ∷ g ∷ h ∷ []) l = refl
-eight (a ∷ b ∷ c ∷ d ∷ e ∷ f ∷ g ∷ h ∷ i ∷ xs) l = absurd (let z : ⊥ = omega arith in z)
-eight [] l = absurd (let z : ⊥ = omega arith in z)
-eight (a ∷ []) l = absurd (let z : ⊥ = omega arith in z)
-eight (a ∷ b ∷ []) l = absurd (let z : ⊥ = omega arith in z)
-eight (a ∷ b ∷ c ∷ []) l = absurd (let z : ⊥ = omega arith in z)
-eight (a ∷ b ∷ c ∷ d ∷ []) l = absurd (let z : ⊥ = omega arith in z)
-eight (a ∷ b ∷ c ∷ d ∷ e ∷ []) l = absurd (let z : ⊥ = omega arith in z)
-eight (a ∷ b ∷ c ∷ d ∷ e ∷ f ∷ []) l = absurd (let z : ⊥ = omega arith in z)
-eight (a ∷ b ∷ c ∷ d ∷ e ∷ f ∷ g ∷ []) l = absurd (let z : ⊥ = omega arith in z)
+pub eight : {A : Type 0} (o : A) (xs : List A) → length xs ≡ 8
+    → xs ≡ getD xs 0 o ∷ getD xs 1 o ∷ getD xs 2 o ∷ getD xs 3 o ∷ getD xs 4 o ∷ getD xs 5 o ∷ getD xs 6 o ∷ getD xs 7 o ∷ []
+eight o (a ∷ b ∷ c ∷ d ∷ e ∷ f ∷ g ∷ h ∷ []) l = refl
+eight o (a ∷ b ∷ c ∷ d ∷ e ∷ f ∷ g ∷ h ∷ i ∷ xs) l = absurd (let z : ⊥ = omega arith in z)
+eight o [] l = absurd (let z : ⊥ = omega arith in z)
+eight o (a ∷ []) l = absurd (let z : ⊥ = omega arith in z)
+eight o (a ∷ b ∷ []) l = absurd (let z : ⊥ = omega arith in z)
+eight o (a ∷ b ∷ c ∷ []) l = absurd (let z : ⊥ = omega arith in z)
+eight o (a ∷ b ∷ c ∷ d ∷ []) l = absurd (let z : ⊥ = omega arith in z)
+eight o (a ∷ b ∷ c ∷ d ∷ e ∷ []) l = absurd (let z : ⊥ = omega arith in z)
+eight o (a ∷ b ∷ c ∷ d ∷ e ∷ f ∷ []) l = absurd (let z : ⊥ = omega arith in z)
+eight o (a ∷ b ∷ c ∷ d ∷ e ∷ f ∷ g ∷ []) l = absurd (let z : ⊥ = omega arith in z)
 
 -- ---- the fields of one word
 

@@ -1,20 +1,25 @@
--- Entries read in groups of four.
+-- Entries read in groups of eight.
 use mathlib.Core.Path.{_≡_, refl, sym, ap, ap₂, _∙_}
 use mathlib.Core.List.{List, [], _∷_, _++_, append-assoc}
 use Prim.Native.Nat.{ℕ, zero, suc, _+_, _*_, _^_, _/_, _%_, _≤_, _<_}
+use native.Mathlib.Nat.{div-one, add-zero}
 use native.Mathlib.Omega.{arith}
-use lib.ListN.{length, take, set, length-set}
+use lib.ListN.{length, take, drop, set, getD, length-set}
 use lib.Seq.{take-suc-set, take-all}
-use Rattle.bits.specs.Fields.{total, unpack, Fit, times}
-use Rattle.bits.specs.Cursor.{Behind, Read}
+use Rattle.bits.specs.Fields.{total, pack, unpack, Fit, after, times}
+use Rattle.bits.specs.Words.{wordOf}
+use Rattle.bits.specs.Cursor.{Read, bitsRead}
 use Rattle.bits.specs.declared.cursor.Cursor.{Cursor}
-use Rattle.bits.proofs.cursor.Laws.{read-append, read-none, read-word}
+use Rattle.bits.proofs.Fields.{pack-unpack, fit-unpack, fit-append, length-unpack, after-one, after-append, after-word, total-times}
+use Rattle.bits.proofs.cursor.Laws.{read-append, read-none}
 use Rattle.memory.specs.declared.page.Page.{Page}
-use Rattle.memory.specs.Page.{pageOf}
+use Rattle.memory.specs.Page.{pageOf, unmapped}
 use Rattle.image.specs.Image.{pageWidths, byteAt}
 use Rattle.image.proofs.Parts.{times-add}
-use Rattle.image_read.specs.Reading.{yes, pagesOf, fieldsAt}
-use Rattle.image_read.proofs.Sections.{section-is}
+use Rattle.image_read.specs.declared.Eight.{Eight}
+use Rattle.image_read.specs.Reading.{yes, pagesOf, eightFields, fieldsAt}
+use Rattle.image_read.proofs.Fields.{eight}
+use Rattle.image_read.proofs.Sections.{section-is, word-to, byte-behind}
 
 pub pages-append : (i : ℕ) (vs us : List ℕ) → Fit (times i pageWidths) vs → pagesOf (vs ++ us) ≡ pagesOf vs ++ pagesOf us
 unfolding pagesOf times
@@ -49,6 +54,13 @@ four-pages w h =
     ∷ pageOf (1024 * n3 i) (yes (b3 i))
     ∷ []
 
+-- eight entries of two words
+pub eight-pages : (w : Eight) → w .first < 2 ^ 44 → w .last < 2 ^ 44 → fourIn (w .first) ++ fourIn (w .last) ≡ pagesOf (eightFields w)
+eight-pages w ha hb =
+    let us = unpack (times 4 pageWidths) (w .first) in
+    let vs = unpack (times 4 pageWidths) (w .last) in
+    ap₂ (λ (s t : List Page). s ++ t) (four-pages (w .first) ha) (four-pages (w .last) hb) ∙ sym (pages-append 4 us vs (fit-unpack (times 4 pageWidths) (w .first)))
+
 take-set-four : (xs : List Page) (i : ℕ) (p q r s : Page) → i + 4 ≤ length xs
     → take (i + 4) (set (set (set (set xs i p) (i + 1) q) (i + 2) r) (i + 3) s) ≡ take i xs ++ p ∷ q ∷ r ∷ s ∷ []
 take-set-four xs i p q r s h =
@@ -73,32 +85,106 @@ take-set-four xs i p q r s h =
     ∙ ap (λ (l : List Page). l ++ q ∷ []) (ap (λ (k : ℕ). take k a) e1 ∙ take-suc-set xs i p (omega arith))))
     ∙ simp append-assoc
 
--- the first i entries are those of the fields read
-pub record PagesRead (img : List ℕ) (a : ℕ) (c : Cursor) (i : ℕ) (xs : List Page) : Type 0 where
-  pub vs : List ℕ
-  pub read : Read img (byteAt a) c (times i pageWidths) vs
-  pub same : take i xs ≡ pagesOf vs
+-- eight elements stored from i on
+abbrev pub setEight : List Page → ℕ → List Page → List Page
+setEight xs i g =
+    let o = unmapped in
+    let h = set (set (set (set xs i (getD g 0 o)) (i + 1) (getD g 1 o)) (i + 2) (getD g 2 o)) (i + 3) (getD g 3 o) in
+    set (set (set (set h (i + 4) (getD g 4 o)) (i + 5) (getD g 5 o)) (i + 6) (getD g 6 o)) (i + 7) (getD g 7 o)
 
-pub pages-none : (img : List ℕ) (a : ℕ) (xs : List Page) → Behind img (byteAt a) → PagesRead img a (byteAt a) 0 xs
-unfolding times pagesOf
-pages-none img a xs h = record { vs = []; read = read-none img (byteAt a) h; same = refl }
+take-set-eight : (xs g : List Page) (i : ℕ) → i + 8 ≤ length xs → length g ≡ 8 → take (i + 8) (setEight xs i g) ≡ take i xs ++ g
+take-set-eight xs g i h l =
+    let o = unmapped in
+    let a = set (set (set (set xs i (getD g 0 o)) (i + 1) (getD g 1 o)) (i + 2) (getD g 2 o)) (i + 3) (getD g 3 o) in
+    let la : length a ≡ length xs = simp length-set in
+    let front = take-set-four xs i (getD g 0 o) (getD g 1 o) (getD g 2 o) (getD g 3 o) (omega arith) in
+    let back = take-set-four a (i + 4) (getD g 4 o) (getD g 5 o) (getD g 6 o) (getD g 7 o) (omega arith) in
+    let e5 : i + 4 + 1 ≡ i + 5 = omega arith in
+    let e6 : i + 4 + 2 ≡ i + 6 = omega arith in
+    let e7 : i + 4 + 3 ≡ i + 7 = omega arith in
+    let e8 : i + 4 + 4 ≡ i + 8 = omega arith in
+    rw (e5, e6, e7, e8) at back
+    ∙ ap (λ (t : List Page). t ++ getD g 4 o ∷ getD g 5 o ∷ getD g 6 o ∷ getD g 7 o ∷ []) front
+    ∙ append-assoc (take i xs) (getD g 0 o ∷ getD g 1 o ∷ getD g 2 o ∷ getD g 3 o ∷ []) (getD g 4 o ∷ getD g 5 o ∷ getD g 6 o ∷ getD g 7 o ∷ [])
+    ∙ ap (λ (t : List Page). take i xs ++ t) (sym (eight o g l))
 
-pub pages-more : (img : List ℕ) (a : ℕ) (c d : Cursor) (i w : ℕ) (xs : List Page) (p q r s : Page) → i + 4 ≤ length xs → PagesRead img a c i xs → Read img c d (44 ∷ []) (w ∷ [])
-    → p ≡ pageIn (w / 0x200000000) → q ≡ pageIn (w / 0x400000 % 2048) → r ≡ pageIn (w / 2048 % 2048) → s ≡ pageIn (w % 2048)
-    → PagesRead img a d (i + 4) (set (set (set (set xs i p) (i + 1) q) (i + 2) r) (i + 3) s)
-unfolding total times
-pages-more img a c d i w xs p q r s h g f ep eq er es =
-    let us = unpack (times 4 pageWidths) w in
+-- ---- eight entries in 11 bytes
+
+pub eight-read : (img : List ℕ) (at a b c : ℕ) → at + 11 ≤ length img
+    → a ≡ wordOf (take 4 (drop at img)) → a < 2 ^ 32 → b ≡ wordOf (take 4 (drop (at + 4) img)) → b < 2 ^ 32
+    → c ≡ wordOf (take 3 (drop (at + 8) img)) → c < 2 ^ 24
+    → Read img (byteAt at) (byteAt (at + 11)) (44 ∷ 44 ∷ []) ((a * 4096 + b / 0x100000) ∷ (b % 0x100000 * 0x1000000 + c) ∷ [])
+unfolding bitsRead after total pack
+eight-read img at a b c h ea la eb lb ec lc =
+    let N = wordOf (take at img) in
+    let e8 : at + 4 + 4 ≡ at + 8 = omega arith in
+    let e11 : at + 8 + 3 ≡ at + 11 = omega arith in
+    let u = word-to img at 4 (omega arith) in
+    let v = rw e8 at (word-to img (at + 4) 4 (omega arith)) in
+    let w = rw e11 at (word-to img (at + 8) 3 (omega arith)) in
     record {
-      vs = g .vs ++ us;
-      read = rw (times-add i 4 pageWidths) (read-append img (byteAt a) c d (times i pageWidths) (g .vs) (times 4 pageWidths) us (g .read) (read-word img c d (times 4 pageWidths) w f));
-      same =
-          take-set-four xs i p q r s h
-          ∙ ap₂ (λ (l m : List Page). l ++ m) (g .same) ((λ j. ep j ∷ eq j ∷ er j ∷ es j ∷ []) ∙ four-pages w (f .fit .0))
-          ∙ sym (pages-append i (g .vs) us (g .read .fit));
+      behind = byte-behind img (at + 11);
+      pos = omega arith;
+      fit = (omega arith, (omega arith, tt));
+      bits =
+          div-one (wordOf (take (at + 11) img))
+          ∙ rw (div-one N) (omega (arith, u, v, w, ea, eb, ec));
     }
 
-pub pages-done : (img : List ℕ) (a k n : ℕ) (c : Cursor) (xs : List Page) → a + k ≤ length img → length xs ≡ n → total (times n pageWidths) ≡ k * 8 → PagesRead img a c n xs
-    → xs ≡ pagesOf (fieldsAt (times n pageWidths) img a k)
-pages-done img a k n c xs h l t g =
-    sym (take-all n xs (omega arith)) ∙ g .same ∙ ap pagesOf (sym (section-is img a k h c (times n pageWidths) (g .vs) t (g .read)))
+-- a word behind a number, and its fields
+word-fields : (S : ℕ) (ws : List ℕ) (x : ℕ) → x < 2 ^ total ws → after S (total ws ∷ []) (x ∷ []) ≡ after S ws (unpack ws x)
+word-fields S ws x h = ap (λ (v : ℕ). after S (total ws ∷ []) (v ∷ [])) (sym (pack-unpack ws x h)) ∙ after-word S ws (unpack ws x)
+
+two-words : (S : ℕ) (ws us : List ℕ) (x y : ℕ) → x < 2 ^ total ws → y < 2 ^ total us
+    → after S (total ws ∷ total us ∷ []) (x ∷ y ∷ []) ≡ after S (ws ++ us) (unpack ws x ++ unpack us y)
+two-words S ws us x y hx hy =
+    sym (after-append S (total ws ∷ []) (x ∷ []) (total us ∷ []) (y ∷ []) refl)
+    ∙ word-fields (after S (total ws ∷ []) (x ∷ [])) us y hy
+    ∙ ap (λ (T : ℕ). after T us (unpack us y)) (word-fields S ws x hx)
+    ∙ after-append S ws (unpack ws x) us (unpack us y) (sym (length-unpack ws x))
+
+eight-fields : (img : List ℕ) (p q : Cursor) (w : Eight) → Read img p q (44 ∷ 44 ∷ []) (w .first ∷ w .last ∷ []) → Read img p q (times 8 pageWidths) (eightFields w)
+unfolding total times
+eight-fields img p q w f =
+    record {
+      behind = f .behind;
+      pos = omega (arith, f .pos);
+      fit = fit-append (times 4 pageWidths) (times 4 pageWidths) (unpack (times 4 pageWidths) (w .first)) (unpack (times 4 pageWidths) (w .last)) (fit-unpack (times 4 pageWidths) (w .first)) (fit-unpack (times 4 pageWidths) (w .last));
+      bits = f .bits ∙ two-words (bitsRead img p) (times 4 pageWidths) (times 4 pageWidths) (w .first) (w .last) (f .fit .0) (f .fit .1 .0);
+    }
+
+-- the entries of the first k groups are those of the fields read
+pub record PagesRead (img : List ℕ) (a k : ℕ) (xs : List Page) : Type 0 where
+  pub vs : List ℕ
+  pub read : Read img (byteAt a) (byteAt (a + k * 11)) (times (k * 8) pageWidths) vs
+  pub same : take (k * 8) xs ≡ pagesOf vs
+
+pub pages-none : (img : List ℕ) (a : ℕ) (xs : List Page) → PagesRead img a 0 xs
+unfolding times pagesOf
+pages-none img a xs = record { vs = []; read = rw (add-zero a) (read-none img (byteAt a) (byte-behind img a)); same = refl }
+
+pub pages-more : (img : List ℕ) (a k : ℕ) (w : Eight) (xs g : List Page) → k * 8 + 8 ≤ length xs → PagesRead img a k xs
+    → Read img (byteAt (a + k * 11)) (byteAt (a + k * 11 + 11)) (44 ∷ 44 ∷ []) (w .first ∷ w .last ∷ []) → g ≡ pagesOf (eightFields w) → length g ≡ 8
+    → PagesRead img a (k + 1) (setEight xs (k * 8) g)
+pages-more img a k w xs g h p f e l =
+    let us = eightFields w in
+    let e11 : (k + 1) * 11 ≡ k * 11 + 11 = omega arith in
+    let e8 : (k + 1) * 8 ≡ k * 8 + 8 = omega arith in
+    let ea : a + (k * 11 + 11) ≡ a + k * 11 + 11 = omega arith in
+    record {
+      vs = p .vs ++ us;
+      read =
+          rw (e11, e8, ea, times-add (k * 8) 8 pageWidths)
+          (read-append img (byteAt a) (byteAt (a + k * 11)) (byteAt (a + k * 11 + 11)) (times (k * 8) pageWidths) (p .vs) (times 8 pageWidths) us (p .read)
+          (eight-fields img (byteAt (a + k * 11)) (byteAt (a + k * 11 + 11)) w f));
+      same =
+          rw e8
+          (take-set-eight xs g (k * 8) h l ∙ ap₂ (λ (s t : List Page). s ++ t) (p .same) e ∙ sym (pages-append (k * 8) (p .vs) us (p .read .fit)));
+    }
+
+pub pages-done : (img : List ℕ) (a k : ℕ) (xs : List Page) → a + k * 11 ≤ length img → length xs ≡ k * 8 → PagesRead img a k xs
+    → xs ≡ pagesOf (fieldsAt (times (k * 8) pageWidths) img a (k * 11))
+unfolding total
+pages-done img a k xs h l g =
+    let t : total (times (k * 8) pageWidths) ≡ k * 11 * 8 = omega (arith, total-times (k * 8) pageWidths) in
+    sym (take-all (k * 8) xs (omega arith)) ∙ g .same ∙ ap pagesOf (sym (section-is img a (k * 11) h (byteAt (a + k * 11)) (times (k * 8) pageWidths) (g .vs) t (g .read)))

@@ -26,7 +26,7 @@ module _ (img : List ℕ) (a k : ℕ) (inside : a + k ≤ length img) where
   long-mid : length (take k (drop a img)) ≡ k
   long-mid = length-take-le k (drop a img) (rw length-drop (omega arith))
 
-  word-to : wordOf (take (a + k) img) ≡ wordOf (take a img) * 2 ^ (k * 8) + wordOf (take k (drop a img))
+  pub word-to : wordOf (take (a + k) img) ≡ wordOf (take a img) * 2 ^ (k * 8) + wordOf (take k (drop a img))
   word-to =
       ap wordOf (take-add a k img) ∙ word-append (take a img) (take k (drop a img))
       ∙ ap (λ (l : ℕ). wordOf (take a img) * 2 ^ (l * 8) + wordOf (take k (drop a img))) long-mid

@@ -5,7 +5,7 @@ use mathlib.Core.List.{List, [], _∷_, _++_, map}
 use lib.Dec.{eqb, leb}
 use lib.Ieee.{binary32, ofBits}
 use lib.ListN.{length, getD, take, drop, replicate}
-use Rattle.bits.specs.Fields.{unpack}
+use Rattle.bits.specs.Fields.{unpack, times}
 use Rattle.bits.specs.Words.{wordOf}
 use Rattle.memory.specs.declared.Memory.{Memory}
 use Rattle.memory.specs.declared.mirroring.Mirroring.{Mirroring}
@@ -23,8 +23,9 @@ use Rattle.state.specs.State.{inRange}
 use Rattle.refusals.specs.Refusals.{Check, firstOf, ifAccepted}
 use Rattle.cartridge.specs.Load.{noState}
 use Rattle.image_read.specs.declared.ReadImage.{ReadImage}
+use Rattle.image_read.specs.declared.Eight.{Eight}
 use Rattle.image_read.specs.declared.Head.{Head}
-use Rattle.image.specs.Image.{part, chipWidths, soundWidths, memoryWidths, partWidths, widths}
+use Rattle.image.specs.Image.{part, pageWidths, chipWidths, soundWidths, memoryWidths, partWidths, widths}
 use Rattle.image.specs.Writing.{imageCheck}
 
 -- ---- fields back to what they were made of
@@ -158,6 +159,10 @@ readImage img =
 -- the fields of widths ws in the k bytes from a place on
 unfoldable pub fieldsAt : List ℕ → List ℕ → ℕ → ℕ → List ℕ
 fieldsAt ws img at k = unpack ws (wordOf (take k (drop at img)))
+
+-- the fields of eight entries, of the words that hold them
+abbrev pub eightFields : Eight → List ℕ
+eightFields w = unpack (times 4 pageWidths) (w .first) ++ unpack (times 4 pageWidths) (w .last)
 
 -- the board's parts, of the words that hold them
 abbrev pub headParts : Head → List (List ℕ)

@@ -66,7 +66,7 @@ unfolding inFloat
 int-to-float-t34 c = let s = c .before .before .before .before .before .before .before .before in le→leb (getD (s .args .t1) 7 0) 16777216 (omega (arith, s .pre 7))
 
 returns : tie.Need-returns
-returns c = let xs = c .before .before .before .before .before .before .before .before .args .t1 in let l : length xs ≡ 8 = search needs in rw (eight xs l)
+returns c = let xs = c .before .before .before .before .before .before .before .before .args .t1 in let l : length xs ≡ 8 = search needs in rw (eight 0 xs l)
 
 pub levels-of-spec : {M : Type 1} → statement M
 levels-of-spec =
