@@ -13,7 +13,7 @@ use lib.Seq.{take-suc, length-take-le, take-add, getD-drop}
 use Rattle.bits.specs.Fields.{total, pack, unpack, Fit, bit, times, each}
 use Rattle.bits.specs.Cursor.{Held, Wrote}
 use Rattle.bits.specs.declared.cursor.Cursor.{Cursor}
-use Rattle.bits.proofs.Fields.{pack-append, replicate-snoc, bit-lt, times-each}
+use Rattle.bits.proofs.Fields.{pack-append, replicate-snoc, bit-lt, times-each, total-times}
 use Rattle.bits.proofs.cursor.Laws.{wrote-append, wrote-none}
 use Rattle.image.specs.Image.{joined, byteAt}
 
@@ -104,13 +104,26 @@ take-four {A = A} d xs i h =
     (four d (drop i xs) (rw length-drop (omega arith))
     ∙ rw (getD-drop i xs 0 d, getD-drop i xs 1 d, getD-drop i xs 2 d, getD-drop i xs 3 d, let e : i + 0 ≡ i = omega arith in e))
 
-pub wrote-four : {A : Type 0} (f : A → List ℕ) (ws : List ℕ) (d : A) → ((x : A) → length ws ≡ length (f x)) → (a b c : List ℕ) (u v w : Cursor) (xs : List A) (i : ℕ) → i + 4 ≤ length xs
+wrote-four : {A : Type 0} (f : A → List ℕ) (ws : List ℕ) (d : A) → ((x : A) → length ws ≡ length (f x)) → (a b c : List ℕ) (u v w : Cursor) (xs : List A) (i : ℕ) → i + 4 ≤ length xs
     → Wrote a b u v (times i ws) (each f (take i xs)) → Wrote b c v w (times 4 ws) (each f (fourAt d xs i))
     → Wrote a c u w (times (i + 4) ws) (each f (take (i + 4) xs))
 wrote-four f ws d h a b c u v w xs i l p q =
     rw (times-add i 4 ws, take-four d xs i l, each-append f (take i xs) (fourAt d xs i))
     (wrote-append a b c u v w (times i ws) (each f (take i xs)) (times 4 ws) (each f (fourAt d xs i))
     (times-each f ws h i (take i xs) (length-take-le i xs (omega arith))) p q)
+
+-- eight elements of 11 bits are 11 bytes
+pub wrote-eight : {A : Type 0} (f : A → List ℕ) (ws : List ℕ) (d : A) → ((x : A) → length ws ≡ length (f x)) → total ws ≡ 11
+    → (a b m c : List ℕ) (p k : ℕ) (v w : Cursor) (xs : List A) → k * 8 + 8 ≤ length xs
+    → Wrote a b (byteAt p) (byteAt (p + k * 11)) (times (k * 8) ws) (each f (take (k * 8) xs))
+    → Wrote b m (byteAt (p + k * 11)) v (times 4 ws) (each f (fourAt d xs (k * 8))) → Wrote m c v w (times 4 ws) (each f (fourAt d xs (k * 8 + 4)))
+    → Wrote a c (byteAt p) (byteAt (p + (k + 1) * 11)) (times ((k + 1) * 8) ws) (each f (take ((k + 1) * 8) xs))
+wrote-eight f ws d h t a b m c p k v w xs l q r s =
+    let e : (k + 1) * 8 ≡ k * 8 + 4 + 4 = omega arith in
+    let n = rw t at (total-times (k * 8 + 4 + 4) ws) in
+    let x = wrote-four f ws d h a b m (byteAt p) (byteAt (p + k * 11)) v xs (k * 8) (omega arith) q r in
+    let y = wrote-four f ws d h a m c (byteAt p) v w xs (k * 8 + 4) (omega arith) x s in
+    rw e (wrote-to a c p (p + (k + 1) * 11) w (times (k * 8 + 4 + 4) ws) (each f (take (k * 8 + 4 + 4) xs)) (omega (arith, n)) y)
 
 -- ---- values that fit
 

@@ -159,24 +159,32 @@ fn quad_word(p: Page, q: Page, r: Page, s: Page) -> u64
     ((a * 2048 + b) * 2048 + c) * 2048 + d
 }
 
+// Each table goes by eight entries, which are 11 bytes.
 fn put_prg_pages(img: &mut [u8], pages: [Page; 64])
     requires { ⌜ length (now img) ≡ imageBytes ⌝ }
     requires { ⌜ ((i : ℕ) → i < 64 → offsetOf (getD pages i unmapped) < 1048576) ⌝ }
     ensures { λ _. ⌜ Wrote (now (img .entry)) (now (img .exit)) (byteAt 193) (byteAt 281) (times 64 pageWidths) (each pageFields pages) ⌝ }
 {
-    let mut c = Cursor {
-        acc: 0,
-        n: 0,
-        at: 193,
-    };
-    let mut i: usize = 0;
-    while i < 64 {
+    let mut k: usize = 0;
+    while k < 8 {
+        let i = k * 8;
         let p = pages[i];
         let q = pages[i + 1];
         let r = pages[i + 2];
         let s = pages[i + 3];
-        c = put(img, c, 44, quad_word(p, q, r, s));
-        i += 4;
+        let c = Cursor {
+            acc: 0,
+            n: 0,
+            at: 193 + k * 11,
+        };
+        let d = put(img, c, 44, quad_word(p, q, r, s));
+        let j = i + 4;
+        let t = pages[j];
+        let u = pages[j + 1];
+        let v = pages[j + 2];
+        let x = pages[j + 3];
+        put(img, d, 44, quad_word(t, u, v, x));
+        k += 1;
     }
 }
 
@@ -185,19 +193,26 @@ fn put_chr_pages(img: &mut [u8], pages: [Page; 16])
     requires { ⌜ ((i : ℕ) → i < 16 → offsetOf (getD pages i unmapped) < 1048576) ⌝ }
     ensures { λ _. ⌜ Wrote (now (img .entry)) (now (img .exit)) (byteAt 281) (byteAt 303) (times 16 pageWidths) (each pageFields pages) ⌝ }
 {
-    let mut c = Cursor {
-        acc: 0,
-        n: 0,
-        at: 281,
-    };
-    let mut i: usize = 0;
-    while i < 16 {
+    let mut k: usize = 0;
+    while k < 2 {
+        let i = k * 8;
         let p = pages[i];
         let q = pages[i + 1];
         let r = pages[i + 2];
         let s = pages[i + 3];
-        c = put(img, c, 44, quad_word(p, q, r, s));
-        i += 4;
+        let c = Cursor {
+            acc: 0,
+            n: 0,
+            at: 281 + k * 11,
+        };
+        let d = put(img, c, 44, quad_word(p, q, r, s));
+        let j = i + 4;
+        let t = pages[j];
+        let u = pages[j + 1];
+        let v = pages[j + 2];
+        let x = pages[j + 3];
+        put(img, d, 44, quad_word(t, u, v, x));
+        k += 1;
     }
 }
 
