@@ -413,9 +413,9 @@ fn read_state(img: &[u8], h: Head, bits: u32) -> State
     requires { ⌜ (length (now img) ≡ imageBytes) × HeadFits h × (bits ≤ 0x456F1000) ⌝ }
     ensures { λ r. ⌜ r ≡ record { chip = chipOf h (soundAt (now (img .entry)) bits); memory = memoryAt (now (img .entry)) } ⌝ }
 {
+    let m = read_memory(img);
     let audio = read_sound(img, bits);
     let chip = chip_of(h, audio);
-    let m = read_memory(img);
     State {
         chip: chip,
         memory: m,
