@@ -4,9 +4,9 @@ use mathlib.Core.Path.{_≡_, refl, sym, ap, _∙_}
 use mathlib.Core.List.{List, [], _∷_, _++_}
 use native.Mathlib.Nat.{zero-add}
 use lib.ListN.{length, take, drop}
-use Rattle.cut.specs.Calls.{Call, run, other, RunGave, Gave, Board, Stretch, Trace, last, then, Observed, withRun, withOther, Point, from, start, afterRun, noted, Outline, outline}
+use Rattle.cut.specs.Calls.{Call, run, other, Board, Trace, last, then, Observed, withRun, Point, from, start, afterRun, noted, Outline, outline}
 use Rattle.cut.specs.Machine.{Paper, ticks, machineRun, otherOf, machine}
-use Rattle.cut.specs.Contract.{runBy, runOf, Keeps, OneRise}
+use Rattle.cut.specs.Contract.{runBy, Keeps, OneRise}
 use Rattle.cut.specs.Demand3.{observed, AsMachine, CutBlind}
 use Rattle.cut.proofs.Machine.{ticks-add, ticks-clocks, behind, ticks-behind, tells}
 

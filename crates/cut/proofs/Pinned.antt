@@ -2,12 +2,12 @@
 -- its reply, its samples and its rises. So it holds of no board that refuses too much or too little, idles within a run or alters a refused state.
 use Prim.Native.Nat.{ℕ, zero, suc, _≤_}
 use mathlib.Core.Path.{_≡_, refl, sym, ap, _∙_}
-use mathlib.Core.List.{List, [], _∷_, _++_}
+use mathlib.Core.List.{List, [], _∷_}
 use native.Mathlib.Omega.{arith}
 use lib.ListN.{length, take}
-use Rattle.cut.specs.Calls.{Call, run, other, RunGave, Reply, refused, Gave, Board, Stretch, Trace, last, then, Observed, Point, start, riseAfter, afterRun, noted}
+use Rattle.cut.specs.Calls.{run, other, RunGave, Reply, refused, Board, Stretch, Trace, last, then, Observed, Point, start, riseAfter, afterRun, noted}
 use Rattle.cut.specs.Machine.{Paper, ticks, machineRun, otherOf, machine}
-use Rattle.cut.specs.Demand3.{observed, AsMachine}
+use Rattle.cut.specs.Demand3.{AsMachine}
 
 headOr : ℕ → List ℕ → ℕ
 headOr d [] = d

@@ -1,18 +1,18 @@
 -- The counter 0x8000 + n first raises the line after 0x7FFF − n clocks, in every list of calls that leaves it alone.
-use Prim.Native.Nat.{ℕ, zero, suc, _+_, _-_, _%_, _^_, _≤_, _<_}
-use mathlib.Core.Path.{_≡_, refl, sym, ap, _∙_}
-use mathlib.Core.Bool.{Bool, true, false, cond, not}
+use Prim.Native.Nat.{ℕ, zero, suc, _+_, _-_, _≤_, _<_}
+use mathlib.Core.Path.{_≡_, refl, sym, _∙_}
+use mathlib.Core.Bool.{Bool, true, false}
 use mathlib.Core.List.{List, [], _∷_, _++_, append-assoc, append-nil}
-use native.Mathlib.Nat.{add-zero, add-suc, zero-add}
+use native.Mathlib.Nat.{add-zero, add-suc}
 use native.Mathlib.Omega.{arith}
-use lib.Dec.{eqb, ltb}
+use lib.Dec.{ltb}
 use lib.ListN.{length}
 use borrow.Author.Tests.{le-ltb, ne-eqb, eq-eqb, ltb-true, ltb-false}
-use Rattle.cut.specs.Calls.{Call, run, other, Board, Trace, Point, from, start, noted, allClocks, allRises}
+use Rattle.cut.specs.Calls.{Call, run, other, Board, Trace, Point, from, start, allClocks, allRises}
 use Rattle.cut.specs.Machine.{Clocked, Paper, tick, ticks, machineRun, otherOf, machine}
-use Rattle.cut.specs.Contract.{Keeps, OneRise}
+use Rattle.cut.specs.Contract.{Keeps}
 use Rattle.cut.specs.Counter.{Counter, moves, nextCounter, risesFrom}
-use Rattle.cut.specs.Demand3.{observed, Untouched, FirstRise, RisesInTime}
+use Rattle.cut.specs.Demand3.{observed, Untouched, RisesInTime}
 use Rattle.cut.proofs.Machine.{ticks-add, ticks-count, ticks-clocks}
 use Rattle.cut.proofs.Cutting.{as-machine}
 use Rattle.cut.proofs.Counter.{counter-once}

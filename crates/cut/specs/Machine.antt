@@ -4,7 +4,7 @@ use mathlib.Core.Bool.{Bool, cond}
 use mathlib.Core.Option.{Option, some, none}
 use mathlib.Core.List.{List, [], _∷_, _++_}
 use lib.ListN.{length}
-use Rattle.cut.specs.Calls.{Call, run, other, Reply, refused, answered, Gave, Stretch, Trace, last, Observed, withRun, withOther, Point, from}
+use Rattle.cut.specs.Calls.{Call, run, other, refused, answered, Gave, last, Observed, withRun, withOther, Point, from}
 
 -- One clock: the state after it, its sample if it makes one, and whether it is a rise.
 pub record Clocked (State Sample : Type 0) : Type 0 where

@@ -1,18 +1,14 @@
 -- Channel outputs as whole numbers, and `out` as its bits.
-use Prim.Native.Nat.{ℕ, zero, suc, _+_, _-_, _*_, _/_, _%_, _^_, _≤_, _<_}
-use mathlib.Core.Path.{_≡_, refl, sym, ap, _∙_, subst}
-use mathlib.Core.Bool.{Bool, true, false, cond, not, _&&_}
-use mathlib.Core.List.{List}
+use Prim.Native.Nat.{ℕ, _+_, _-_, _*_, _/_, _%_, _^_, _≤_, _<_}
+use mathlib.Core.Path.{_≡_, refl, sym, subst}
+use mathlib.Core.Bool.{Bool, true, false, not}
 use mathlib.Core.Logic.{_⊎_, inl, inr}
 use native.Mathlib.Omega.{arith}
 use native.Mathlib.Nat.{eq-or-lt-of-le, le-trans, div-le-of-le-mul, mul-le-mul-right}
 use lib.Pow.{pow-mono}
-use borrow.Author.Tests.{leb-true, le-leb, eqb-true, eq-eqb, ltb-true, ltb-false, lt-ltb}
-use lib.Dec.{T, eqb, leb, ltb}
-use lib.Ieee.{Float, binary32, toBits, ofBits, isNan, fits}
-use lib.Ieee.Bits.{ofBits-toBits, toBits-ofBits, toBits-lt}
-use lib.Ieee.Fits.{ofInt-fits}
-use lib.IntN.{pos}
+use borrow.Author.Tests.{leb-true, eqb-true, ltb-false}
+use lib.Dec.{T, ltb}
+use lib.Ieee.{Float, binary32, toBits, isNan}
 use Rattle.sound.specs.Mix.{whole}
 use Rattle.state.specs.Audio.{outOk, wholePart, levelOk}
 use Rattle.state.proofs.Every.{and-left, and-right}

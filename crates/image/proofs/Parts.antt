@@ -1,19 +1,18 @@
 -- Laws of parts: words of several fields, and parts one behind the other.
-use mathlib.Core.Path.{_≡_, refl, sym, ap, ap₂, _∙_, subst}
-use mathlib.Core.Bool.{Bool, true, false}
-use mathlib.Core.List.{List, [], _∷_, _++_, map, append-assoc, append-nil}
-use Prim.Native.Nat.{ℕ, zero, suc, _+_, _-_, _*_, _^_, _/_, _%_, _≤_, _<_}
-use native.Mathlib.Nat.{suc-inj}
+use mathlib.Core.Path.{_≡_, refl, sym, ap, _∙_}
+use mathlib.Core.Bool.{Bool, false}
+use mathlib.Core.List.{List, [], _∷_, _++_, map, append-assoc}
+use Prim.Native.Nat.{ℕ, zero, suc, _+_, _-_, _*_, _^_, _≤_, _<_}
 use native.Mathlib.Numerals.{add-one}
 use native.Mathlib.Omega.{arith}
 use lib.Pow.{pow-add, pow-mono}
 use lib.ListN.{length, take, drop, getD, replicate, length-append, length-drop, length-replicate, length-map}
 use lib.Arith.{lt-one}
 use lib.Seq.{take-suc, length-take-le, take-add, getD-drop}
-use Rattle.bits.specs.Fields.{total, pack, unpack, Fit, bit, times, each}
+use Rattle.bits.specs.Fields.{total, pack, Fit, bit, times, each}
 use Rattle.bits.specs.Cursor.{Held, Wrote}
 use Rattle.bits.specs.declared.cursor.Cursor.{Cursor}
-use Rattle.bits.proofs.Fields.{pack-append, replicate-snoc, bit-lt, times-each, total-times}
+use Rattle.bits.proofs.Fields.{pack-append, replicate-snoc, times-each, total-times}
 use Rattle.bits.proofs.cursor.Laws.{wrote-append, wrote-none}
 use Rattle.image.specs.Image.{joined, byteAt}
 

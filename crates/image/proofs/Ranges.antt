@@ -1,7 +1,7 @@
 -- What the test of refusal 2 says of the fields that an image holds.
-use Prim.Native.Nat.{ℕ, _+_, _*_, _≤_, _<_}
-use mathlib.Core.Path.{_≡_, refl}
-use mathlib.Core.Bool.{Bool, true, _&&_}
+use Prim.Native.Nat.{ℕ, _≤_, _<_}
+use mathlib.Core.Path.{_≡_}
+use mathlib.Core.Bool.{true}
 use mathlib.Core.List.{List}
 use native.Mathlib.Omega.{arith}
 use borrow.Author.Tests.{leb-true}
@@ -13,7 +13,7 @@ use Rattle.memory.proofs.Laws.Layout.{pages-le}
 use Rattle.sound.specs.declared.audio.Audio.{Audio}
 use Rattle.state.specs.declared.State.{State}
 use Rattle.state.specs.Every.{every}
-use Rattle.state.specs.State.{mapperOk, bankTest, chipOk, inRange, MemoryInRange}
+use Rattle.state.specs.State.{mapperOk, bankTest, chipOk, inRange}
 use Rattle.state.specs.Audio.{outOk, outputTest, phaseTest, audioOk}
 use Rattle.state.specs.Tables.{memoryOk}
 use Rattle.state.proofs.Every.{and-left, and-right, every-at}

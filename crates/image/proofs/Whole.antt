@@ -1,6 +1,5 @@
 -- The fields fill the 307 bytes.
 use mathlib.Core.Path.{_≡_, refl}
-use mathlib.Core.List.{List}
 use Prim.Native.Nat.{_*_}
 use lib.ListN.{length}
 use Rattle.bits.specs.Fields.{total, times}

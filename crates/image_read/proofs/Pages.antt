@@ -10,7 +10,7 @@ use Rattle.bits.specs.Fields.{total, pack, unpack, Fit, after, times}
 use Rattle.bits.specs.Words.{wordOf}
 use Rattle.bits.specs.Cursor.{Read, bitsRead}
 use Rattle.bits.specs.declared.cursor.Cursor.{Cursor}
-use Rattle.bits.proofs.Fields.{pack-unpack, fit-unpack, fit-append, length-unpack, after-one, after-append, after-word, total-times}
+use Rattle.bits.proofs.Fields.{pack-unpack, fit-unpack, fit-append, length-unpack, after-append, after-word, total-times}
 use Rattle.bits.proofs.cursor.Laws.{read-append, read-none}
 use Rattle.memory.specs.declared.page.Page.{Page}
 use Rattle.memory.specs.Page.{pageOf, unmapped}

@@ -2,8 +2,8 @@
 use Prim.Native.Nat.{ℕ, zero, suc, _+_, _%_, _≤_, _<_}
 use mathlib.Core.Path.{_≡_, refl, sym, ap, _∙_}
 use mathlib.Core.Bool.{Bool, true, false, cond}
-use mathlib.Core.List.{List, _∷_}
-use native.Mathlib.Nat.{mod-eq-of-lt, mod-lt}
+use mathlib.Core.List.{_∷_}
+use native.Mathlib.Nat.{mod-eq-of-lt}
 use native.Mathlib.Omega.{arith}
 use lib.ListN.{getD}
 use Rattle.sound.specs.declared.audio.Audio.{Audio}
@@ -11,7 +11,6 @@ use Rattle.sound.specs.declared.registers.SoundRead.{SoundRead}
 use Rattle.sound.specs.Audio.{withAddr}
 use Rattle.sound.specs.Registers.{peeked, advanced, readOf}
 use Rattle.sound.proofs.registers.Laws.{inside}
-use Rattle.port.specs.declared.lent.Port.{Port}
 use Rattle.port.specs.Lent.{placeOf, byteOf, afterRead, portOf, withPort}
 use Rattle.port.specs.Block.{reads, afterReads, registerReads, afterRegisterReads}
 use Rattle.port.proofs.lent.Laws.{byte-in-range}

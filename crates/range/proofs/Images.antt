@@ -27,7 +27,7 @@ use Rattle.image.specs.Image.{imageOf}
 use Rattle.image.specs.Writing.{imageCheck, writeChecks}
 use Rattle.image_read.specs.Reading.{fieldsOf, fieldsOk, fieldsCheck, readChecks, readImage}
 use Rattle.image_read.proofs.RoundTrip.{read-written}
-use Rattle.image_read.specs.Typed.{Bytes, ChipTyped, SoundTyped, MemoryTyped, Typed}
+use Rattle.image_read.specs.Typed.{Bytes, Typed}
 use Rattle.range.proofs.Decided.{Decided, decided}
 use Rattle.range.proofs.Types.{typed-state}
 

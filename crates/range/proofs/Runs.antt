@@ -1,7 +1,7 @@
 -- The run: every single clock keeps a state in range, and so does every accepted run; a refused one alters nothing; its refusal numbers, both ways. Assumes
 -- nothing; a state has the types of its fields.
 use Prim.Native.Nat.{ℕ, zero, suc, _≤_, _<_}
-use mathlib.Core.Path.{_≡_, refl, _∙_}
+use mathlib.Core.Path.{_≡_, refl}
 use mathlib.Core.Bool.{Bool, true, false, cond}
 use mathlib.Core.List.{List, [], _∷_}
 use mathlib.Core.Logic.{_↔_}
@@ -10,19 +10,18 @@ use native.Mathlib.Omega.{arith}
 use borrow.Author.Tests.{lt-ltb, le-ltb, ltb-true, ltb-false}
 use lib.Ieee.{Float}
 use lib.ListN.{length}
-use Rattle.cut.specs.Calls.{Point, start}
 use Rattle.cut.specs.Machine.{Clocked, tick, ticks}
 use Rattle.cut.specs.Contract.{runBy}
 use Rattle.sound.specs.Clock.{soundClock}
-use Rattle.sound.specs.Range.{InRange as AudioInRange, Typed as AudioTyped}
+use Rattle.sound.specs.Range.{Typed as AudioTyped}
 use Rattle.sound.proofs.Range.{clock-range, clock-typed}
 use Rattle.chip.specs.declared.namco163.Namco163.{Namco163}
 use Rattle.chip.specs.Namco163.{is163, withRegs, withAudio}
 use Rattle.chip.specs.Clock.{clockCounter}
 use Rattle.state.specs.declared.State.{State}
-use Rattle.state.specs.State.{inRange, withChip}
+use Rattle.state.specs.State.{inRange}
 use Rattle.state.proofs.Every.{was-true}
-use Rattle.refusals.specs.Refusals.{Check, firstOf, stateCheck}
+use Rattle.refusals.specs.Refusals.{firstOf, stateCheck}
 use Rattle.clocks.specs.Clock.{chipClock, stateClock}
 use Rattle.clocks.specs.Run.{clocks, made, lengthCheck, roomCheck, runChecks, runGave}
 use Rattle.range.specs.Typed.{Typed}

@@ -11,7 +11,7 @@ use borrow.Author.Tests.{eq-eqb, ne-eqb, lt-ltb, le-ltb, le-leb, lt-leb, leb-tru
 use lib.Dec.{eqb, leb}
 use lib.ListN.{getD, set, length, drop, length-set}
 use lib.Seq.{getD-set-same, getD-set-other, drop-set-lt}
-use lib.IntN.{ℤ, pos, negℤ, _+ℤ_, +ℤ-comm, +ℤ-negℤ-cancel}
+use lib.IntN.{pos, negℤ, _+ℤ_, +ℤ-comm, +ℤ-negℤ-cancel}
 use lib.Ieee.{Float, binary32, round}
 use Rattle.sound.specs.declared.audio.Audio.{Audio}
 use Rattle.sound.specs.Audio.{withRam, withAddr}

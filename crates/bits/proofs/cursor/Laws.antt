@@ -13,7 +13,7 @@ use Rattle.bits.specs.Fields.{total, pack, unpack, Fit, after, times, ea
 use Rattle.bits.specs.Words.{wordOf, eights}
 use Rattle.bits.specs.Cursor.{Held, Wrote, bitsWritten, Behind, Read, bitsRead, start}
 use Rattle.bits.specs.declared.cursor.Cursor.{Cursor}
-use Rattle.bits.proofs.Fields.{total-append, pack-unpack, unpack-pack, fit-unpack, after-one, after-append, after-word, fit-length, fit-append, replicate-snoc, each-snoc, times-snoc, times-each, holds-take}
+use Rattle.bits.proofs.Fields.{total-append, pack-unpack, unpack-pack, fit-unpack, after-append, after-word, fit-length, fit-append, replicate-snoc, each-snoc, times-snoc, times-each, holds-take}
 use Rattle.bits.proofs.words.Laws.{total-eights, word-append, length-bytes, word-of-bytes, fit-bytes, bytes-of-word}
 
 -- ---- one field

@@ -1,12 +1,11 @@
 -- `namco163_load` meets its contract: refused by the image, refused by the load, and accepted.
-use Prim.Native.Nat.{ℕ}
-use mathlib.Core.Path.{_≡_, sym, ap, _∙_}
+use mathlib.Core.Path.{sym, ap, _∙_}
 use mathlib.Core.List.{_∷_}
 use lib.ListN.{length}
 use borrow.Author.Needs.{needs}
 use Rattle.cartridge.specs.declared.Loaded.{Loaded}
 use Rattle.refusals.specs.Refusals.{loadChecks}
-use Rattle.cartridge.specs.Load.{freshState, loadAnswer, loadArena}
+use Rattle.cartridge.specs.Load.{freshState}
 use Rattle.image.specs.Writing.{imageCheck, writtenImage}
 use Rattle.range.proofs.Refused.{load-number, load-refused}
 use Rattle.range.proofs.Calls.{load-fits}

@@ -1,5 +1,5 @@
 -- `namco163_run` meets its contract: refused by the image, or on with its state.
-use mathlib.Core.Path.{_≡_, sym, ap, _∙_}
+use mathlib.Core.Path.{sym, ap, _∙_}
 use mathlib.Core.List.{_∷_}
 use borrow.Author.Needs.{needs}
 use Rattle.refusals.specs.Refusals.{stateCheck}

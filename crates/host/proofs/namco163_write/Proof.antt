@@ -1,5 +1,5 @@
 -- `namco163_write` meets its contract: refused by the image, or on with its state.
-use mathlib.Core.Path.{_≡_, sym, ap, _∙_}
+use mathlib.Core.Path.{sym, ap, _∙_}
 use lib.ListN.{length}
 use borrow.Author.Needs.{needs}
 use Rattle.refusals.specs.Refusals.{cpuChecks}

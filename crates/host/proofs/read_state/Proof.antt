@@ -1,11 +1,10 @@
 -- `read_state` meets its contract: refused, accepted without a change, and accepted at the sound port.
 use Prim.Native.Nat.{_*_}
-use mathlib.Core.Path.{_≡_, sym, ap, _∙_}
+use mathlib.Core.Path.{sym, ap, _∙_}
 use lib.ListN.{length}
 use borrow.Author.Needs.{needs}
 use Rattle.namco163.specs.declared.calls.ByteRead.{ByteRead}
 use Rattle.refusals.specs.Refusals.{cpuChecks}
-use Rattle.namco163.specs.Calls.{cpuRead}
 use Rattle.image.specs.Image.{imageOf}
 use Rattle.state.specs.State.{inRange}
 use Rattle.range.proofs.Refused.{cpu-read-number}

@@ -1,8 +1,7 @@
 -- `reset_state` meets its contract: refused, and accepted.
-use mathlib.Core.Path.{_≡_, sym, ap, _∙_}
+use mathlib.Core.Path.{sym, ap, _∙_}
 use mathlib.Core.List.{[]}
 use borrow.Author.Needs.{needs}
-use Rattle.state.specs.declared.State.{State}
 use Rattle.battery.specs.declared.Altered.{Altered}
 use Rattle.refusals.specs.Refusals.{resetChecks}
 use Rattle.battery.specs.Battery.{resetState}

@@ -16,16 +16,16 @@ use Rattle.bits.proofs.Fields.{each-snoc}
 use Rattle.bits.proofs.words.Laws.{length-bytes}
 use Rattle.cut.specs.Calls.{Point}
 use Rattle.cut.specs.Contract.{lastOr, runBy}
-use Rattle.sound.proofs.Range.{run-range, samples-number}
+use Rattle.sound.proofs.Range.{samples-number}
 use Rattle.chip.specs.Namco163.{is163}
 use Rattle.state.specs.declared.State.{State}
 use Rattle.state.specs.State.{inRange}
 use Rattle.refusals.specs.Refusals.{firstOf}
 use Rattle.clocks.specs.declared.run.Ran.{Ran}
 use Rattle.clocks.specs.Run.{clocks, made, runChecks, ranOf}
-use Rattle.clocks.proofs.run.Laws.{run-good, made-floor, counter-small, sounds-state, sounds-samples, silent-state, silent-samples}
+use Rattle.clocks.proofs.run.Laws.{run-good, made-floor, counter-small, sounds-samples, silent-samples}
 use Rattle.range.specs.Typed.{Typed}
-use Rattle.range.proofs.State.{state-in, in-state}
+use Rattle.range.proofs.State.{state-in}
 use Rattle.host.specs.Host.{sampleBytes, runIn, HoldsRun}
 
 -- ---- bytes

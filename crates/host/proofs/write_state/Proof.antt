@@ -1,12 +1,11 @@
 -- `write_state` meets its contract: refused, and accepted. The PRG mask has no bit below 24, so it and the CHR mask do not meet.
 use Prim.Native.Nat.{_+_, _*_}
-use mathlib.Core.Path.{_≡_, sym, ap, _∙_}
+use mathlib.Core.Path.{sym, ap, _∙_}
 use native.Mathlib.Omega.{arith}
 use lib.ListN.{length}
 use borrow.Author.Needs.{needs}
 use Rattle.namco163.specs.declared.calls.Written.{Written}
 use Rattle.refusals.specs.Refusals.{cpuChecks}
-use Rattle.namco163.specs.Calls.{cpuWrite, cpuWriteArena}
 use Rattle.image.specs.Image.{imageOf}
 use Rattle.state.specs.State.{inRange}
 use Rattle.range.proofs.Refused.{cpu-write-number, cpu-write-refused}

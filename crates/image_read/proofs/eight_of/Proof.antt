@@ -2,7 +2,6 @@
 use mathlib.Core.Path.{refl, _∙_}
 use mathlib.Core.List.{[], _∷_}
 use Rattle.image_read.proofs.Pages.{eight-pages}
-use native.Mathlib.Omega.{arith}
 use borrow.Author.Needs.{needs}
 use Rattle.image_read.proofs.eight_of.Statement.{statement}
 use Rattle.image_read.proofs.eight_of.Tie as tie

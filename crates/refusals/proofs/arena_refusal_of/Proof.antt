@@ -1,6 +1,5 @@
 -- `arena_refusal_of` meets its contract.
 use mathlib.Core.Path.{sym, _∙_}
-use borrow.Author.Needs.{needs}
 use borrow.Author.Tests.{eq-eqb, ne-eqb}
 use Rattle.refusals.specs.Refusals.{firstOf}
 use Rattle.refusals.proofs.Laws.{memory-good}

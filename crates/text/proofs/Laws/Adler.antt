@@ -1,6 +1,6 @@
 -- The two sums at the byte at an index. Assumes nothing.
 use Prim.Native.Nat.{ℕ, _+_, _*_, _%_, _≤_, _<_}
-use mathlib.Core.Path.{_≡_, refl}
+use mathlib.Core.Path.{_≡_}
 use mathlib.Core.List.{List}
 use lib.ListN.{length, getD, drop}
 use Rattle.text.specs.Adler.{sumsFrom}

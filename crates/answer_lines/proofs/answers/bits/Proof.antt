@@ -1,6 +1,5 @@
 -- A float that equals itself is no NaN.
 use Rattle.state.proofs.AudioRange.{number}
-use native.Mathlib.Omega.{arith}
 use borrow.Author.Needs.{needs}
 use Rattle.answer_lines.proofs.answers.bits.Statement.{statement}
 use Rattle.answer_lines.proofs.answers.bits.Tie as tie

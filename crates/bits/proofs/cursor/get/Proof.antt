@@ -1,6 +1,6 @@
 -- `bits::cursor::get` meets its contract.
-use mathlib.Core.Path.{_≡_, refl, sym, ap, _∙_}
-use Prim.Native.Nat.{ℕ, _+_, _-_, _*_, _/_, _%_, _^_, _<_, _≤_}
+use mathlib.Core.Path.{_≡_, sym, ap, _∙_}
+use Prim.Native.Nat.{ℕ, _+_, _-_, _*_, _/_, _%_, _^_, _<_}
 use native.Mathlib.Nat.{mod-lt, lt-of-lt-of-le}
 use native.Mathlib.Omega.{arith}
 use lib.Pow.{pow-pos, pow-mono, high, low}
@@ -8,7 +8,7 @@ use lib.ListN.{take}
 use borrow.Author.Needs.{needs}
 use Rattle.bits.specs.Fields.{total}
 use Rattle.bits.specs.Words.{wordOf}
-use Rattle.bits.specs.Cursor.{Behind, Read, bitsRead}
+use Rattle.bits.specs.Cursor.{bitsRead}
 use Rattle.bits.proofs.Fields.{after-one}
 use Rattle.bits.proofs.cursor.Laws.{get-bits, got-lt}
 use Rattle.bits.proofs.cursor.get.Statement.{statement}

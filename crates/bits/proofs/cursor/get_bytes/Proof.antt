@@ -1,6 +1,5 @@
 -- `bits::cursor::get_bytes` meets its contract.
 use mathlib.Core.Path.{refl}
-use Prim.Native.Nat.{_+_}
 use native.Mathlib.Omega.{arith}
 use lib.ListN.{length}
 use Rattle.bits.proofs.cursor.Laws.{bytes-read}

@@ -1,13 +1,13 @@
 -- `bits::cursor::get_run` meets its contract: field after field.
-use mathlib.Core.Path.{_≡_, refl, sym, ap, _∙_}
-use Prim.Native.Nat.{ℕ, _+_, _-_, _*_, _^_, _<_, _≤_}
+use mathlib.Core.Path.{_≡_, refl, _∙_}
+use Prim.Native.Nat.{_-_, _≤_}
 use native.Mathlib.Nat.{lt-of-lt-of-le}
 use native.Mathlib.Omega.{arith}
 use lib.Pow.{pow-mono}
 use borrow.Author.Needs.{needs}
-use lib.ListN.{length, take, replicate, getD, length-set}
+use lib.ListN.{length, take, replicate, length-set}
 use lib.Seq.{take-length}
-use Rattle.bits.specs.Cursor.{Read, Behind}
+use Rattle.bits.specs.Cursor.{Read}
 use Rattle.bits.proofs.Fields.{total-replicate, room}
 use Rattle.bits.proofs.cursor.Laws.{read-none, read-suc}
 use Rattle.bits.proofs.cursor.get_run.Statement.{statement}

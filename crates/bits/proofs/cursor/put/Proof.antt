@@ -1,13 +1,13 @@
 -- `bits::cursor::put` meets its contract.
-use mathlib.Core.Path.{_≡_, refl, sym, ap, _∙_}
-use Prim.Native.Nat.{ℕ, _+_, _*_, _/_, _%_, _^_, _<_}
+use mathlib.Core.Path.{_≡_, ap, _∙_}
+use Prim.Native.Nat.{ℕ, _+_, _*_, _/_, _%_, _^_}
 use native.Mathlib.Nat.{mod-lt, le-refl}
 use lib.ListN.{length, drop}
 use lib.Seq.{drop-paste, length-paste}
 use native.Mathlib.Omega.{arith}
 use lib.Pow.{pow-pos}
 use borrow.Author.Needs.{needs}
-use Rattle.bits.specs.Cursor.{Held, Wrote, bitsWritten}
+use Rattle.bits.specs.Cursor.{bitsWritten}
 use Rattle.bits.specs.Fields.{total}
 use Rattle.bits.specs.Words.{bytesOf}
 use Rattle.bits.proofs.Fields.{after-one}

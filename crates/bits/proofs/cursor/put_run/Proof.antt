@@ -1,11 +1,11 @@
 -- `bits::cursor::put_run` meets its contract: field after field.
-use mathlib.Core.Path.{_≡_, refl, sym, ap, _∙_}
-use Prim.Native.Nat.{ℕ, _+_, _-_, _*_, _^_, _<_, _≤_}
+use mathlib.Core.Path.{_≡_, refl}
+use Prim.Native.Nat.{_-_, _≤_}
 use native.Mathlib.Omega.{arith}
 use borrow.Author.Needs.{needs}
-use lib.ListN.{length, take, replicate, getD}
+use lib.ListN.{length, take, replicate}
 use lib.Seq.{take-length}
-use Rattle.bits.specs.Cursor.{Wrote, Held}
+use Rattle.bits.specs.Cursor.{Wrote}
 use Rattle.bits.proofs.Fields.{fit-at, total-replicate, room}
 use Rattle.bits.proofs.cursor.Laws.{wrote-none, wrote-suc}
 use Rattle.bits.proofs.cursor.put_run.Statement.{statement}

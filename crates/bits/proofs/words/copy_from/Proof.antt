@@ -1,12 +1,11 @@
 -- `bits::words::copy_from` meets its contract.
-use mathlib.Core.Path.{_≡_, refl, sym, ap, ap₂, _∙_}
-use mathlib.Core.List.{List}
+use mathlib.Core.Path.{_≡_, refl, sym, ap, _∙_}
 use Prim.Native.Nat.{ℕ, _+_, _-_, _<_, _≤_}
 use native.Mathlib.Numerals.{add-one}
 use native.Mathlib.Omega.{arith}
 use borrow.Author.Needs.{needs}
-use lib.ListN.{length, take, drop, getD, set, length-set, length-drop}
-use lib.Seq.{paste, paste-zero, paste-suc, take-suc, take-suc-set, take-length, getD-drop}
+use lib.ListN.{length, take, drop, getD, length-set, length-drop}
+use lib.Seq.{take-suc, take-suc-set, take-length, getD-drop}
 use Rattle.bits.proofs.words.copy_from.Statement.{statement}
 use Rattle.bits.proofs.words.copy_from.Tie as tie
 

@@ -1,12 +1,12 @@
 -- `bits::words::copy_to` meets its contract.
-use mathlib.Core.Path.{_≡_, refl, sym, ap, ap₂, _∙_}
+use mathlib.Core.Path.{_≡_, refl, sym, ap, _∙_}
 use mathlib.Core.List.{List}
-use Prim.Native.Nat.{ℕ, _+_, _-_, _<_, _≤_}
+use Prim.Native.Nat.{ℕ, _+_, _-_, _≤_}
 use native.Mathlib.Numerals.{add-one}
 use native.Mathlib.Omega.{arith}
 use borrow.Author.Needs.{needs}
-use lib.ListN.{length, take, drop, getD, set, length-set, length-drop}
-use lib.Seq.{paste, paste-zero, paste-suc, take-suc, take-suc-set, take-length, getD-drop}
+use lib.ListN.{length, getD, set, length-set}
+use lib.Seq.{paste, paste-zero, paste-suc}
 use Rattle.bits.proofs.words.copy_to.Statement.{statement}
 use Rattle.bits.proofs.words.copy_to.Tie as tie
 

@@ -1,9 +1,8 @@
 -- `bits::words::load` meets its contract: byte after byte.
-use mathlib.Core.Path.{_≡_, refl, sym, ap, _∙_}
-use Prim.Native.Nat.{ℕ, _+_, _-_, _*_, _^_, _<_, _≤_}
+use mathlib.Core.Path.{_≡_}
+use Prim.Native.Nat.{_+_, _-_, _*_, _^_, _<_, _≤_}
 use native.Mathlib.Omega.{arith}
-use native.Mathlib.Nat.{le-antisymm}
-use lib.ListN.{length, take, drop, getD}
+use lib.ListN.{take, drop, getD}
 use Rattle.bits.specs.Words.{wordOf}
 use Rattle.bits.proofs.words.Laws.{load-zero, load-suc, load-small, load-fits}
 use Rattle.bits.proofs.words.load.Statement.{statement}

@@ -1,5 +1,5 @@
 -- `bits::words::low` meets its contract.
-use mathlib.Core.Path.{_≡_, ap}
+use mathlib.Core.Path.{ap}
 use Prim.Native.Nat.{ℕ, _%_}
 use borrow.Author.Needs.{needs}
 use lib.Pow.{pow-pos}

@@ -1,9 +1,8 @@
 -- `bits::words::store` meets its contract: a turn's store is `paste-suc`.
-use mathlib.Core.Path.{_≡_, refl, sym, ap, ap₂, _∙_}
-use mathlib.Core.List.{List}
-use Prim.Native.Nat.{ℕ, _+_, _-_, _*_, _^_, _/_, _%_, _<_, _≤_}
+use mathlib.Core.Path.{_≡_, refl, _∙_}
+use Prim.Native.Nat.{_-_, _≤_}
 use native.Mathlib.Omega.{arith}
-use lib.ListN.{length, take, drop, getD, set, length-set}
+use lib.ListN.{length, length-set}
 use lib.Seq.{paste, paste-zero}
 use Rattle.bits.specs.Fields.{unpack}
 use Rattle.bits.specs.Words.{eights}

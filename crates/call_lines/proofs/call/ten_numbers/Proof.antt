@@ -1,11 +1,8 @@
 -- Safe: the index is below ten.
-use Prim.Native.Nat.{ℕ, _+_, _-_, _≤_, _<_}
-use mathlib.Core.Path.{_≡_, refl, sym, _∙_}
-use lib.ListN.{length, take}
-use lib.Seq.{length-take-le, take-length}
-use denote.Ref.{now}
+use Prim.Native.Nat.{_-_, _≤_}
+use mathlib.Core.Path.{_≡_}
+use lib.ListN.{length}
 use borrow.Author.Needs.{needs}
-use native.Mathlib.Omega.{arith}
 use Rattle.call_lines.proofs.call.ten_numbers.Statement.{statement}
 use Rattle.call_lines.proofs.call.ten_numbers.Tie as tie
 

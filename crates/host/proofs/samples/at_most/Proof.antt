@@ -1,5 +1,4 @@
 -- `at_most` meets its contract.
-use borrow.Author.Needs.{needs}
 use borrow.Author.Tests.{lt-ltb, le-ltb}
 use native.Mathlib.Omega.{arith}
 use Rattle.host.proofs.samples.at_most.Statement.{statement}

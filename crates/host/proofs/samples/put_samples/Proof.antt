@@ -1,12 +1,11 @@
 -- `put_samples` meets its contract, sample by sample.
-use Prim.Native.Nat.{ℕ, _+_, _*_, _-_, _≤_}
+use Prim.Native.Nat.{_+_, _*_, _-_, _≤_}
 use mathlib.Core.Path.{_≡_, ap, _∙_}
 use mathlib.Core.List.{_++_}
 use lib.ListN.{length, take, drop}
 use Rattle.bits.specs.Fields.{each}
 use Rattle.host.specs.Host.{sampleBytes}
 use Rattle.host.proofs.samples.Laws.{put-none, put-length, put-more}
-use borrow.Author.Needs.{needs}
 use native.Mathlib.Omega.{arith}
 use Rattle.host.proofs.samples.put_samples.Statement.{statement}
 use Rattle.host.proofs.samples.put_samples.Tie as tie

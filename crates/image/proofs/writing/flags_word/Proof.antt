@@ -1,7 +1,7 @@
 -- `flags_word` meets its contract: flag after flag.
-use Rattle.bits.specs.Fields.{total, pack, bit}
+use Rattle.bits.specs.Fields.{pack, bit}
 use mathlib.Core.Path.{_≡_, refl, sym, ap, _∙_}
-use mathlib.Core.List.{List, map}
+use mathlib.Core.List.{map}
 use Prim.Native.Nat.{ℕ, _+_, _-_, _*_, _^_, _<_, _≤_}
 use lib.ListN.{length, take, getD, replicate}
 use lib.Seq.{take-all}

@@ -1,9 +1,9 @@
 -- `put_chip` meets its contract: its parts stand one behind the other.
-use mathlib.Core.Path.{_≡_, refl, sym, ap, _∙_}
-use mathlib.Core.List.{List, [], _∷_, map}
-use lib.ListN.{length, getD, replicate, length-map}
+use mathlib.Core.Path.{_≡_, refl, sym, _∙_}
+use mathlib.Core.List.{[]}
+use lib.ListN.{length, length-map}
 use Prim.Native.Nat.{_+_, _*_}
-use Rattle.bits.specs.Fields.{total, pack, bit}
+use Rattle.bits.specs.Fields.{total, bit}
 use Rattle.bits.proofs.cursor.Laws.{wrote-word}
 use Rattle.image.specs.Image.{joined, chipWidths, chipFields, part}
 use Rattle.image.proofs.Parts.{wrote-to, wrote-end, wrote-part}

@@ -1,13 +1,11 @@
 -- `put_chr_banks` meets its contract: bank after bank.
-use mathlib.Core.Path.{_≡_, refl, sym, ap, _∙_}
-use mathlib.Core.List.{List, [], _∷_}
-use Prim.Native.Nat.{ℕ, _+_, _-_, _*_, _^_, _<_, _≤_}
+use mathlib.Core.Path.{_≡_, refl}
+use Prim.Native.Nat.{_-_, _≤_}
 use lib.ListN.{length, take, getD, replicate}
 use lib.Seq.{take-all}
-use Rattle.bits.specs.Fields.{total}
 use mir.Val.{Fits}
 use mir.Syntax.{w8}
-use Rattle.bits.specs.Cursor.{Wrote, Held}
+use Rattle.bits.specs.Cursor.{Wrote}
 use Rattle.bits.proofs.Fields.{total-replicate}
 use Rattle.bits.proofs.cursor.Laws.{wrote-none, wrote-suc}
 use native.Mathlib.Omega.{arith}

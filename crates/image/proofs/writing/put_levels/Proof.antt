@@ -1,11 +1,11 @@
 -- `put_levels` meets its contract: channel after channel.
-use mathlib.Core.Path.{_≡_, refl, sym, ap, _∙_}
-use mathlib.Core.List.{List, [], _∷_, map}
-use Prim.Native.Nat.{ℕ, _+_, _-_, _*_, _%_, _^_, _<_, _≤_}
-use lib.ListN.{length, take, getD, replicate}
+use mathlib.Core.Path.{_≡_, refl}
+use mathlib.Core.List.{[], _∷_}
+use Prim.Native.Nat.{_-_, _≤_}
+use lib.ListN.{length, take}
 use lib.Seq.{take-all}
 use Rattle.bits.specs.Fields.{total, times, each}
-use Rattle.bits.specs.Cursor.{Wrote, Held}
+use Rattle.bits.specs.Cursor.{Wrote}
 use Rattle.bits.proofs.Fields.{total-times}
 use Rattle.bits.proofs.cursor.Laws.{wrote-none, wrote-each}
 use Rattle.state.specs.Audio.{outputTest}

@@ -1,13 +1,13 @@
 -- `put_memory` meets its contract: its parts stand one behind the other.
-use mathlib.Core.Path.{_≡_, refl, sym, ap, _∙_}
-use mathlib.Core.List.{List, [], _∷_, map}
+use mathlib.Core.Path.{_≡_, refl, sym, _∙_}
+use mathlib.Core.List.{[]}
 use lib.ListN.{length, length-map}
-use Rattle.bits.specs.Fields.{total, pack, times, each}
+use Rattle.bits.specs.Fields.{total}
 use Rattle.bits.proofs.Fields.{times-each}
 use Rattle.bits.proofs.cursor.Laws.{wrote-word}
-use Rattle.image.specs.Image.{byteAt, pageWidths, pageFields, layoutWidths, layoutFields}
+use Rattle.image.specs.Image.{pageWidths, pageFields, layoutWidths, layoutFields}
 use Rattle.state.proofs.TablesRange.{memory-in}
-use Rattle.image.proofs.Parts.{wrote-to, wrote-part, wrote-done, byte-held}
+use Rattle.image.proofs.Parts.{wrote-to, wrote-part, wrote-done}
 use Rattle.image.proofs.Ranges.{prg-at, chr-at}
 use native.Mathlib.Omega.{arith}
 use borrow.Author.Needs.{needs}

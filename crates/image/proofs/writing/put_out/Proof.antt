@@ -1,5 +1,5 @@
 -- `put_out` meets its contract: the bits of a number fit.
-use Rattle.bits.specs.Fields.{total, pack}
+use Rattle.bits.specs.Fields.{total}
 use Rattle.image.proofs.Levels.{out-facts}
 use Rattle.image.proofs.Parts.{wrote-to, byte-held}
 use native.Mathlib.Omega.{arith}

@@ -1,8 +1,8 @@
 -- `put_phases` meets its contract: phases in range fit their width.
-use mathlib.Core.Path.{_≡_, refl, sym, ap, _∙_}
-use Prim.Native.Nat.{ℕ, _+_, _-_, _*_, _%_, _^_, _<_, _≤_}
-use lib.ListN.{length, take, getD, replicate}
-use Rattle.bits.specs.Fields.{total, pack}
+use mathlib.Core.Path.{_≡_}
+use Prim.Native.Nat.{_-_}
+use lib.ListN.{length, getD}
+use Rattle.bits.specs.Fields.{total}
 use Rattle.state.specs.Audio.{phaseTest}
 use Rattle.state.proofs.Every.{every-at}
 use borrow.Author.Tests.{ltb-true}

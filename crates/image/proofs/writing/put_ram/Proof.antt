@@ -1,7 +1,7 @@
 -- `put_ram` meets its contract.
-use mathlib.Core.Path.{_≡_, refl, sym, ap, _∙_}
-use lib.ListN.{length, take, getD, replicate}
-use Rattle.bits.specs.Fields.{total, pack}
+use mathlib.Core.Path.{_≡_}
+use lib.ListN.{length}
+use Rattle.bits.specs.Fields.{total}
 use Rattle.image.proofs.Parts.{wrote-to}
 use native.Mathlib.Omega.{arith}
 use borrow.Author.Needs.{needs}

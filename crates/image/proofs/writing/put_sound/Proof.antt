@@ -1,11 +1,11 @@
 -- `put_sound` meets its contract: its parts stand one behind the other.
-use mathlib.Core.Path.{_≡_, refl, sym, ap, _∙_}
-use mathlib.Core.List.{List, [], _∷_, map}
-use lib.ListN.{length, getD, replicate, length-map}
-use Rattle.bits.specs.Fields.{total, pack, bit}
+use mathlib.Core.Path.{_≡_, refl, sym, _∙_}
+use mathlib.Core.List.{[], _∷_, map}
+use lib.ListN.{length, replicate, length-map}
+use Rattle.bits.specs.Fields.{total, bit}
 use Rattle.bits.proofs.cursor.Laws.{wrote-word}
-use Rattle.image.specs.Image.{byteAt, levelNum}
-use Rattle.image.proofs.Parts.{wrote-to, wrote-part, wrote-done, byte-held}
+use Rattle.image.specs.Image.{levelNum}
+use Rattle.image.proofs.Parts.{wrote-to, wrote-part, wrote-done}
 use Rattle.image.proofs.Ranges.{sound-facts}
 use native.Mathlib.Omega.{arith}
 use borrow.Author.Needs.{needs}

@@ -1,10 +1,9 @@
 -- `put_state` meets its contract: the parts fill the image.
-use mathlib.Core.Path.{_≡_, refl, sym, ap, _∙_}
-use Prim.Native.Nat.{_*_}
+use mathlib.Core.Path.{_≡_, refl, sym, _∙_}
 use lib.ListN.{length, length-map}
-use Rattle.bits.specs.Fields.{total, bit}
+use Rattle.bits.specs.Fields.{bit}
 use Rattle.bits.proofs.cursor.Laws.{finish}
-use Rattle.image.specs.Image.{widths, fields, imageOf, joined, partWidths, partFields, chipWidths, chipFields, soundWidths, soundFields, memoryWidths, memoryFields, levelNum}
+use Rattle.image.specs.Image.{widths, fields, imageOf, chipWidths, chipFields, soundWidths, soundFields, memoryWidths, memoryFields, levelNum}
 use Rattle.image.proofs.Parts.{wrote-parts}
 use Rattle.image.proofs.Whole.{total-widths}
 use Rattle.image.proofs.Ranges.{state-facts}

@@ -1,5 +1,5 @@
 -- `write_image` meets its contract: refused by its length, accepted, refused by its state.
-use mathlib.Core.Path.{_≡_, refl, sym, ap, _∙_}
+use mathlib.Core.Path.{sym, _∙_}
 use borrow.Author.Tests.{eq-eqb, ne-eqb}
 use Rattle.refusals.specs.Refusals.{firstOf}
 use Rattle.image.specs.Writing.{writeRefusal, writtenImage}

@@ -1,11 +1,7 @@
 -- A layout within its limits has good page counts.
-use Prim.Native.Nat.{ℕ, _+_, _-_, _≤_, _<_}
-use mathlib.Core.Path.{_≡_, refl, sym, _∙_}
-use lib.ListN.{length, take}
-use lib.Seq.{length-take-le, take-length}
-use denote.Ref.{now}
+use Prim.Native.Nat.{_-_}
+use mathlib.Core.Path.{sym, _∙_}
 use borrow.Author.Needs.{needs}
-use native.Mathlib.Omega.{arith}
 use Rattle.memory.proofs.Laws.Layout.{layout-good}
 use Rattle.player.proofs.calls.arena_len.Statement.{statement}
 use Rattle.player.proofs.calls.arena_len.Tie as tie

@@ -1,11 +1,7 @@
 -- The bytes passed are within the chunk.
-use Prim.Native.Nat.{ℕ, _+_, _-_, _≤_, _<_}
-use mathlib.Core.Path.{_≡_, refl, sym, _∙_}
-use lib.ListN.{length, take}
-use lib.Seq.{length-take-le, take-length}
-use denote.Ref.{now}
+use Prim.Native.Nat.{_-_, _≤_}
+use lib.ListN.{length}
 use borrow.Author.Needs.{needs}
-use native.Mathlib.Omega.{arith}
 use Rattle.replay.proofs.input.line_end.Statement.{statement}
 use Rattle.replay.proofs.input.line_end.Tie as tie
 

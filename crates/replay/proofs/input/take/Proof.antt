@@ -1,11 +1,8 @@
 -- Each turn ends behind a line feed, and the buffers keep their lengths.
-use Prim.Native.Nat.{ℕ, _+_, _-_, _≤_, _<_}
-use mathlib.Core.Path.{_≡_, refl, sym, _∙_}
-use lib.ListN.{length, take}
-use lib.Seq.{length-take-le, take-length}
-use denote.Ref.{now}
+use Prim.Native.Nat.{_-_, _≤_}
+use mathlib.Core.Path.{_≡_}
+use lib.ListN.{length}
 use borrow.Author.Needs.{needs}
-use native.Mathlib.Omega.{arith}
 use Rattle.replay.proofs.input.take.Statement.{statement}
 use Rattle.replay.proofs.input.take.Tie as tie
 

@@ -1,11 +1,9 @@
 -- No digits are no number.
-use Prim.Native.Nat.{ℕ, _+_, _-_, _*_, _%_, _/_, _≤_, _<_}
-use mathlib.Core.Path.{_≡_, refl, sym, _∙_, ap}
-use lib.ListN.{length, drop, take, getD}
+use Prim.Native.Nat.{_-_}
+use mathlib.Core.Path.{sym, _∙_}
 use denote.Ref.{now}
 use borrow.Author.Needs.{needs}
-use native.Mathlib.Omega.{arith}
-use Rattle.text.proofs.Laws.Number.{base-none, base-some, number-none, number-hex, number-decimal}
+use Rattle.text.proofs.Laws.Number.{base-none, base-some}
 use Rattle.text.proofs.number.digits_in_base.Statement.{statement}
 use Rattle.text.proofs.number.digits_in_base.Tie as tie
 

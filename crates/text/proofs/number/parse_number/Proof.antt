@@ -1,11 +1,11 @@
 -- By the first byte.
-use Prim.Native.Nat.{ℕ, _+_, _-_, _*_, _%_, _/_, _≤_, _<_}
-use mathlib.Core.Path.{_≡_, refl, sym, _∙_, ap}
-use lib.ListN.{length, drop, take, getD, length-drop}
+use Prim.Native.Nat.{_-_}
+use mathlib.Core.Path.{sym, _∙_}
+use lib.ListN.{length, drop, length-drop}
 use denote.Ref.{now}
 use borrow.Author.Needs.{needs}
 use native.Mathlib.Omega.{arith}
-use Rattle.text.proofs.Laws.Number.{base-none, base-some, number-none, number-hex, number-decimal}
+use Rattle.text.proofs.Laws.Number.{number-none, number-hex, number-decimal}
 use lib.Seq.{take-all}
 use Rattle.text.proofs.number.parse_number.Statement.{statement}
 use Rattle.text.proofs.number.parse_number.Tie as tie

@@ -1,12 +1,9 @@
 -- By the test: a store past the end is none.
-use Prim.Native.Nat.{ℕ, _+_, _-_, _*_, _%_, _≤_, _<_}
-use mathlib.Core.Path.{_≡_, refl, sym, _∙_}
-use lib.ListN.{length, drop, getD}
+use Prim.Native.Nat.{_-_}
 use denote.Ref.{now}
 use borrow.Author.Needs.{needs}
-use native.Mathlib.Omega.{arith}
-use borrow.Author.Tests.{le-ltb, lt-ltb, le-leb, lt-leb}
-use Rattle.text.specs.Out.{putTo, putOne, putAll}
+use borrow.Author.Tests.{le-ltb, lt-ltb}
+use Rattle.text.specs.Out.{putOne}
 use lib.Seq.{set-out}
 use Rattle.text.proofs.out.put.Statement.{statement}
 use Rattle.text.proofs.out.put.Tie as tie

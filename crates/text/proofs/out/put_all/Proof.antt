@@ -1,11 +1,11 @@
 -- What is put so far, and the bytes that are left, make the whole.
-use Prim.Native.Nat.{ℕ, _+_, _-_, _*_, _%_, _/_, _≤_, _<_}
-use mathlib.Core.Path.{_≡_, refl, sym, _∙_, ap}
-use lib.ListN.{length, drop, take, getD}
+use Prim.Native.Nat.{_-_, _≤_}
+use mathlib.Core.Path.{_≡_, refl, sym, _∙_}
+use lib.ListN.{length, drop}
 use denote.Ref.{now}
 use borrow.Author.Needs.{needs}
 use native.Mathlib.Omega.{arith}
-use Rattle.text.specs.Out.{putTo, putOne, putAll}
+use Rattle.text.specs.Out.{putTo, putAll}
 use Rattle.text.proofs.Laws.Out.{put-next, put-end}
 use Rattle.text.proofs.out.put_all.Statement.{statement}
 use Rattle.text.proofs.out.put_all.Tie as tie

@@ -1,13 +1,11 @@
 -- Two digits, put one after the other.
-use Prim.Native.Nat.{ℕ, _+_, _-_, _*_, _%_, _/_, _≤_, _<_}
-use mathlib.Core.Path.{_≡_, refl, sym, _∙_, ap}
-use lib.ListN.{length, drop, take, getD}
+use Prim.Native.Nat.{_-_, _%_, _/_}
+use mathlib.Core.Path.{sym, _∙_}
 use denote.Ref.{now}
 use borrow.Author.Needs.{needs}
-use native.Mathlib.Omega.{arith}
-use Rattle.text.specs.Out.{putTo, putOne, putAll}
+use Rattle.text.specs.Out.{putTo}
 use Rattle.text.proofs.Laws.Out.{put-pair}
-use Rattle.text.specs.Hex.{hex8, glyphOf}
+use Rattle.text.specs.Hex.{glyphOf}
 use Rattle.text.proofs.out.put_hex8.Statement.{statement}
 use Rattle.text.proofs.out.put_hex8.Tie as tie
 

@@ -1,13 +1,13 @@
 -- The bytes passed, and the rest of the word, are the word.
-use Prim.Native.Nat.{ℕ, _+_, _-_, _*_, _%_, _/_, _≤_, _<_}
-use mathlib.Core.Path.{_≡_, refl, sym, _∙_, ap}
-use lib.ListN.{length, drop, take, getD}
+use Prim.Native.Nat.{_+_, _-_, _≤_}
+use mathlib.Core.Path.{_≡_, refl}
+use lib.ListN.{length, drop}
 use denote.Ref.{now}
 use borrow.Author.Needs.{needs}
 use native.Mathlib.Omega.{arith}
-use borrow.Author.Tests.{le-ltb, lt-ltb, le-leb, lt-leb, eq-eqb, ne-eqb}
-use Rattle.text.specs.Words.{isSpace, spacesIn, behind, wordLength}
-use Rattle.text.proofs.Laws.Words.{spaces-next, spaces-end, behind-none, behind-next, behind-end, word-next, word-end}
+use borrow.Author.Tests.{eq-eqb, ne-eqb}
+use Rattle.text.specs.Words.{wordLength}
+use Rattle.text.proofs.Laws.Words.{word-next, word-end}
 use Rattle.text.proofs.words.end.Statement.{statement}
 use Rattle.text.proofs.words.end.Tie as tie
 
