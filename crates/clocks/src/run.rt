@@ -1,6 +1,5 @@
 // The public run.
 use crate::clock::run_counter;
-use chip::namco163::Namco163;
 use sound::audio::Audio;
 use sound::run::SoundRan;
 use state::State;
