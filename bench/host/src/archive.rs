@@ -1,26 +1,6 @@
 //! The archive's five calls on one cartridge.
 
-unsafe extern "C" {
-    fn namco163_load(
-        image: *mut u8,
-        image_len: usize,
-        arena: *mut u8,
-        arena_len: usize,
-        mapper: u64,
-        submapper: u8,
-        flags: u8,
-        in_database: u64,
-        prg_rom: u64,
-        prg_ram: u64,
-        battery: u64,
-        chr: u64,
-        chr_ram: u64,
-        ciram: u64,
-    ) -> u64;
-    fn namco163_read(image: *mut u8, image_len: usize, arena: *const u8, arena_len: usize, addr: u16) -> u64;
-    fn namco163_write(image: *mut u8, image_len: usize, arena: *mut u8, arena_len: usize, addr: u16, val: u8) -> u64;
-    fn namco163_run(image: *mut u8, image_len: usize, samples: *mut u8, samples_len: usize, clocks: u64) -> u64;
-}
+use crate::functions::{namco163_load, namco163_read, namco163_run, namco163_write};
 
 pub struct Archive {
     image: [u8; 307],
@@ -37,9 +17,9 @@ impl Archive {
         let (image, arena) = (&mut self.image, &mut self.arena);
         unsafe {
             namco163_load(
-                image.as_mut_ptr(),
+                image.as_mut_ptr().cast(),
                 image.len(),
-                arena.as_mut_ptr(),
+                arena.as_mut_ptr().cast(),
                 arena.len(),
                 19,
                 0,
@@ -56,14 +36,14 @@ impl Archive {
     }
 
     pub fn read(&mut self, addr: u16) -> u64 {
-        unsafe { namco163_read(self.image.as_mut_ptr(), self.image.len(), self.arena.as_ptr(), self.arena.len(), addr) }
+        unsafe { namco163_read(self.image.as_mut_ptr().cast(), self.image.len(), self.arena.as_mut_ptr().cast(), self.arena.len(), addr) }
     }
 
     pub fn write(&mut self, addr: u16, val: u8) -> u64 {
-        unsafe { namco163_write(self.image.as_mut_ptr(), self.image.len(), self.arena.as_mut_ptr(), self.arena.len(), addr, val) }
+        unsafe { namco163_write(self.image.as_mut_ptr().cast(), self.image.len(), self.arena.as_mut_ptr().cast(), self.arena.len(), addr, val) }
     }
 
     pub fn run(&mut self, clocks: u64) -> u64 {
-        unsafe { namco163_run(self.image.as_mut_ptr(), self.image.len(), self.samples.as_mut_ptr(), self.samples.len(), clocks) }
+        unsafe { namco163_run(self.image.as_mut_ptr().cast(), self.image.len(), self.samples.as_mut_ptr().cast(), self.samples.len(), clocks) }
     }
 }

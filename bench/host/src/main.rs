@@ -1,6 +1,9 @@
 //! The archive and the unchanged Rust on the same work, in one process: every answer and sample is compared first, then both are timed.
 
 mod archive;
+#[allow(dead_code)]
+#[path = "../../../oracle/host/src/functions.rs"]
+mod functions;
 mod reference;
 
 use archive::Archive;

@@ -11,8 +11,7 @@ use Rattle.bits.specs.Words.{bytesOf}
 use Rattle.memory.specs.declared.layout.MemoryLayout.{MemoryLayout}
 use Rattle.memory.specs.Layout.{arenaLen}
 use Rattle.state.specs.declared.State.{State}
-use Rattle.refusals.specs.Refusals.{Check, firstOf, kindCheck, arenaCheck, addressCheck, loadChecks, resetChecks, cpuChecks, stateCheck}
-use Rattle.refusals.specs.Refusals.{ifAccepted}
+use Rattle.refusals.specs.Refusals.{Check, firstOf, kindCheck, arenaCheck, addressCheck, loadChecks, resetChecks, cpuChecks, stateCheck, ifAccepted}
 use Rattle.namco163.specs.Calls.{cpuRead, cpuWrite, cpuWriteArena}
 use Rattle.battery.specs.Battery.{resetState}
 use Rattle.cartridge.specs.Load.{freshState, loadArena}

@@ -1,33 +1,7 @@
-//! The archive's five functions.
+//! Calls of the archive on lent bytes.
 
-use crate::lent::Lent;
+use crate::{functions::*, lent::Lent};
 use oracle::{host::HostCall, layout::Load};
-use std::ffi::c_void;
-
-type Bytes = *mut c_void;
-
-unsafe extern "C" {
-    fn namco163_load(
-        image: Bytes,
-        image_len: usize,
-        arena: Bytes,
-        arena_len: usize,
-        mapper: u64,
-        submapper: u8,
-        flags: u8,
-        in_database: u64,
-        prg_rom: u64,
-        prg_ram: u64,
-        battery: u64,
-        chr: u64,
-        chr_ram: u64,
-        ciram: u64,
-    ) -> u64;
-    fn namco163_read(image: Bytes, image_len: usize, arena: Bytes, arena_len: usize, addr: u16) -> u64;
-    fn namco163_write(image: Bytes, image_len: usize, arena: Bytes, arena_len: usize, addr: u16, val: u8) -> u64;
-    fn namco163_run(image: Bytes, image_len: usize, samples: Bytes, samples_len: usize, clocks: u64) -> u64;
-    fn namco163_reset(image: Bytes, image_len: usize, kind: u64) -> u64;
-}
 
 /// Makes a call on lent bytes.
 pub fn call(call: HostCall, image: &mut Lent, arena: &mut Lent, samples: &mut Lent) -> u64 {

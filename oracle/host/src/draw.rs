@@ -3,7 +3,6 @@
 use crate::pair::{Compared, Pair};
 use oracle::{
     host::HostCall,
-    layout::PAGE,
     rng::Rng,
     session::{RUN_LIMIT, samples_made},
 };
@@ -12,25 +11,14 @@ use oracle::{
 const YES: [u64; 6] = [1, 2, 256, 1 << 32, 1 << 63, u64::MAX];
 
 const FIRST: u64 = 0x4800;
-/// Each register range is 800 long.
-const RANGE: u64 = 0x800;
-
 /// The same yes or no, by any of its numbers.
 pub fn yes_no(rng: &mut Rng, number: u64) -> u64 {
     if number == 0 { 0 } else { rng.pick(&YES) }
 }
 
-/// An address from 4800 on: the first or last byte of a range or page, or any.
+/// An address from 4800 on.
 pub fn address(rng: &mut Rng) -> u16 {
-    let any = rng.between(FIRST, 0xFFFF);
-    let at = match rng.below(8) {
-        0..2 => any / RANGE * RANGE,
-        2..4 => any / RANGE * RANGE + RANGE - 1,
-        4 => any / PAGE * PAGE,
-        5 => any / PAGE * PAGE + PAGE - 1,
-        _ => any,
-    };
-    at as u16
+    rng.address(FIRST, 0xFFFF)
 }
 
 /// A byte, at times one at which a register does something else.

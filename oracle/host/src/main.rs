@@ -3,6 +3,7 @@
 mod archive;
 mod counts;
 mod draw;
+mod functions;
 mod lent;
 mod pair;
 mod sessions;

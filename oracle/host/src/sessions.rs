@@ -8,7 +8,7 @@ use oracle::{
     generate::generate,
     host::HostCall,
     image,
-    layout::{BATTERY_LIMIT, CHR_LIMIT, CIRAM_LIMIT, Load, PAGE, PRG_RAM_LIMIT, PRG_ROM_LIMIT},
+    layout::{Load, PAGE},
     rng::Rng,
     session::Session,
     text::Call,
@@ -108,13 +108,7 @@ fn loaded(load: &Load) -> &'static str {
 
 /// Sets one size, or all of them, to the limit or just below it.
 fn near_limit(rng: &mut Rng, load: &mut Load) {
-    let sizes = [
-        (&mut load.prg_rom, PRG_ROM_LIMIT),
-        (&mut load.prg_ram, PRG_RAM_LIMIT),
-        (&mut load.battery, BATTERY_LIMIT),
-        (&mut load.chr, CHR_LIMIT),
-        (&mut load.ciram, CIRAM_LIMIT),
-    ];
+    let sizes = load.sizes_mut();
     let all = rng.once_in(4);
     let one = rng.below(5) as usize;
     for (place, (size, limit)) in sizes.into_iter().enumerate() {

@@ -29,6 +29,17 @@ pub struct Load {
 }
 
 impl Load {
+    /// Each size beside its limit.
+    pub fn sizes_mut(&mut self) -> [(&mut u64, u64); 5] {
+        [
+            (&mut self.prg_rom, PRG_ROM_LIMIT),
+            (&mut self.prg_ram, PRG_RAM_LIMIT),
+            (&mut self.battery, BATTERY_LIMIT),
+            (&mut self.chr, CHR_LIMIT),
+            (&mut self.ciram, CIRAM_LIMIT),
+        ]
+    }
+
     /// The layout in pages, unless a size is above its limit.
     pub fn layout(&self) -> Option<Layout> {
         let within = self.prg_rom <= PRG_ROM_LIMIT

@@ -1,5 +1,10 @@
 //! A small random number generator (splitmix64), so that a seed names the same session everywhere.
 
+use crate::layout::PAGE;
+
+/// Each register range is 800 long.
+pub const RANGE: u64 = 0x800;
+
 pub struct Rng(u64);
 
 impl Rng {
@@ -41,5 +46,18 @@ impl Rng {
 
     pub fn pick<T: Copy>(&mut self, from: &[T]) -> T {
         from[self.below(from.len() as u64) as usize]
+    }
+
+    /// An address of a range's first or last byte, a page's first or last byte, or anywhere.
+    pub fn address(&mut self, first: u64, last: u64) -> u16 {
+        let any = self.between(first, last);
+        let at = match self.below(8) {
+            0..2 => any / RANGE * RANGE,
+            2..4 => any / RANGE * RANGE + RANGE - 1,
+            4..6 => any / PAGE * PAGE,
+            6 => any / PAGE * PAGE + PAGE - 1,
+            _ => any,
+        };
+        at as u16
     }
 }

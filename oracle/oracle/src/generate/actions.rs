@@ -3,7 +3,7 @@
 use super::{Generator, loads};
 use crate::{
     layout::{PAGE, Region},
-    rng::Rng,
+    rng::{RANGE, Rng},
     session::{RUN_LIMIT, SOUND_RAM, samples_made},
     text::{Call, ROOM_LIMIT},
 };
@@ -47,8 +47,6 @@ pub fn weighted(rng: &mut Rng) -> Action {
     unreachable!("the number drawn is below the sum of the weights")
 }
 
-/// Each register range is 800 long, from 4800 on.
-const RANGE: u64 = 0x800;
 const FIRST: u64 = 0x4800;
 
 /// Values at which a register does something else.
@@ -59,17 +57,8 @@ impl Generator {
         if self.rng.once_in(2) { self.rng.pick(&VALUES) } else { self.rng.byte() }
     }
 
-    /// An address of a range's first or last byte, a page's first or last byte, or anywhere.
     fn address(&mut self, first: u64, last: u64) -> u16 {
-        let any = self.rng.between(first, last);
-        let at = match self.rng.below(8) {
-            0..2 => any / RANGE * RANGE,
-            2..4 => any / RANGE * RANGE + RANGE - 1,
-            4..6 => any / PAGE * PAGE,
-            6 => any / PAGE * PAGE + PAGE - 1,
-            _ => any,
-        };
-        at as u16
+        self.rng.address(first, last)
     }
 
     fn write(&mut self, addr: u16, val: u8) {

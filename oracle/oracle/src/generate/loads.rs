@@ -1,7 +1,7 @@
 //! Arguments of loads: usual, odd, empty and largest sizes, and every way to be refused.
 
 use crate::{
-    layout::{BATTERY_LIMIT, CHR_LIMIT, CIRAM_LIMIT, Load, PAGE, PRG_RAM_LIMIT, PRG_ROM_LIMIT},
+    layout::{CHR_LIMIT, Load, PAGE, PRG_RAM_LIMIT, PRG_ROM_LIMIT},
     rng::Rng,
 };
 
@@ -101,13 +101,7 @@ pub fn refused(rng: &mut Rng) -> Load {
 
 /// Sets one size to the first number above its limit, or to one that is in range only in its low 32 bits.
 fn break_size(rng: &mut Rng, load: &mut Load) {
-    let sizes = [
-        (&mut load.prg_rom, PRG_ROM_LIMIT),
-        (&mut load.prg_ram, PRG_RAM_LIMIT),
-        (&mut load.battery, BATTERY_LIMIT),
-        (&mut load.chr, CHR_LIMIT),
-        (&mut load.ciram, CIRAM_LIMIT),
-    ];
+    let sizes = load.sizes_mut();
     let broken = rng.below(sizes.len() as u64) as usize;
     let wide = rng.once_in(4);
     for (size, limit) in sizes.into_iter().skip(broken).take(1) {

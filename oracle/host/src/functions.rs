@@ -1,0 +1,28 @@
+//! The archive's five functions, as include/namco163.h declares them. The benchmark uses this file too.
+
+use std::ffi::c_void;
+
+pub type Bytes = *mut c_void;
+
+unsafe extern "C" {
+    pub fn namco163_load(
+        image: Bytes,
+        image_len: usize,
+        arena: Bytes,
+        arena_len: usize,
+        mapper: u64,
+        submapper: u8,
+        flags: u8,
+        in_database: u64,
+        prg_rom: u64,
+        prg_ram: u64,
+        battery: u64,
+        chr: u64,
+        chr_ram: u64,
+        ciram: u64,
+    ) -> u64;
+    pub fn namco163_read(image: Bytes, image_len: usize, arena: Bytes, arena_len: usize, addr: u16) -> u64;
+    pub fn namco163_write(image: Bytes, image_len: usize, arena: Bytes, arena_len: usize, addr: u16, val: u8) -> u64;
+    pub fn namco163_run(image: Bytes, image_len: usize, samples: Bytes, samples_len: usize, clocks: u64) -> u64;
+    pub fn namco163_reset(image: Bytes, image_len: usize, kind: u64) -> u64;
+}
