@@ -20,7 +20,7 @@ replyOf (suc q) a = refused (suc q)
 abbrev pub gave : ℕ → Answer → State → List ℕ → Gave Held Answer
 gave q a s arena = record { reply = replyOf q a; state = record { state = s; arena = arena } }
 
--- the contracts of crates/namco163: calls.rt, battery.rt; of crates/image: writing.rt
+-- the contracts of crates/namco163: calls.rt; of crates/battery: lib.rt; of crates/image: writing.rt
 unfoldable pub otherGives : Other → Held → Gave Held Answer
 otherGives (cpuRead addr) h = let r = cpuReadGives (h .state) (h .arena) addr in gave (r .refusal) (byte (r .byte)) (r .state) (h .arena)
 otherGives (cpuPeek addr) h = let r = cpuPeekGives (h .state) (h .arena) addr in gave (r .refusal) (byte (r .byte)) (h .state) (h .arena)
