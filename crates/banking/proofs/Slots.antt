@@ -32,7 +32,8 @@ region-by m false = refl
 -- one slot more
 pub slot-more : (n : Namco163) (k : ℕ) (m : Memory) (pages : List Page) (chr nametables r : Region)
     → chr ≡ regionIn m Chr → nametables ≡ regionIn m CiRam → r ≡ cond (getD (n .«nt_bank_enable») k false) nametables chr
-    → withChrPages m pages ≡ mapSlots n k m → withChrPages m (slotPages r k (getD (n .«chr_banks») k 0) pages) ≡ mapSlots n (k + 1) m
+    → withChrPages m pages ≡ mapSlots n k m → withChrPages m (slotPages r k (getD (n .«chr_banks») k 0) pages) ≡ mapSlots n
+    (k + 1) m
 unfolding mapSlots
 slot-more n k m pages chr nametables r c t e h =
     let bank = getD (n .«chr_banks») k 0 in

@@ -37,7 +37,8 @@ unpack-pack-on k (w ∷ ws) (v ∷ vs) f =
 
 pub unpack-pack : (ws vs : List ℕ) → Fit ws vs → unpack ws (pack ws vs) ≡ vs
 unpack-pack ws vs f =
-    ap (unpack ws) (sym (ap (λ (x : ℕ). x + pack ws vs) (zero-mul (2 ^ total ws)) ∙ zero-add (pack ws vs))) ∙ unpack-pack-on 0 ws vs f
+    ap (unpack ws) (sym (ap (λ (x : ℕ). x + pack ws vs) (zero-mul (2 ^ total ws)) ∙ zero-add (pack ws vs)))
+    ∙ unpack-pack-on 0 ws vs f
 
 pub pack-unpack-mod : (ws : List ℕ) (n : ℕ) → pack ws (unpack ws n) ≡ n % 2 ^ total ws
 unfolding total pack unpack
@@ -59,7 +60,8 @@ total-append [] us = omega arith
 total-append (w ∷ ws) us = omega (arith, total-append ws us)
 
 -- fields behind fields
-pub pack-append : (ws us vs xs : List ℕ) → length ws ≡ length vs → pack (ws ++ us) (vs ++ xs) ≡ pack ws vs * 2 ^ total us + pack us xs
+pub pack-append : (ws us vs xs : List ℕ) → length ws ≡ length vs → pack (ws ++ us) (vs ++ xs)
+    ≡ pack ws vs * 2 ^ total us + pack us xs
 unfolding pack
 pack-append [] us [] xs e = omega arith
 pack-append [] us (v ∷ vs) xs e = omega arith
@@ -78,7 +80,8 @@ pub after-one : (S w v : ℕ) → S * 2 ^ w + v ≡ after S (w ∷ []) (v ∷ []
 unfolding after total pack
 after-one S w v = rw (add-zero w) (omega arith)
 
-pub after-append : (S : ℕ) (ws vs us xs : List ℕ) → length ws ≡ length vs → after (after S ws vs) us xs ≡ after S (ws ++ us) (vs ++ xs)
+pub after-append : (S : ℕ) (ws vs us xs : List ℕ) → length ws ≡ length vs → after (after S ws vs) us xs ≡ after S (ws ++ us)
+    (vs ++ xs)
 unfolding after
 after-append S ws vs us xs e =
     rw (total-append ws us, pow-add 2 (total ws) (total us), pack-append ws us vs xs e) (omega arith)
@@ -146,14 +149,17 @@ each-snoc f xs x = each-append f xs (x ∷ []) ∙ ap (λ (l : List ℕ). each f
 pub times-snoc : (n : ℕ) (ws : List ℕ) → times n ws ++ ws ≡ times (n + 1) ws
 unfolding times
 times-snoc zero ws = sym (append-nil ws)
-times-snoc (suc n) ws = append-assoc ws (times n ws) ws ∙ ap (λ (l : List ℕ). ws ++ l) (times-snoc n ws) ∙ ap (λ (k : ℕ). times k ws) (let e : suc (n + 1) ≡ suc n + 1 = omega arith in e)
+times-snoc (suc n) ws =
+    append-assoc ws (times n ws) ws ∙ ap (λ (l : List ℕ). ws ++ l) (times-snoc n ws)
+    ∙ ap (λ (k : ℕ). times k ws) (let e : suc (n + 1) ≡ suc n + 1 = omega arith in e)
 
 pub total-times : (n : ℕ) (ws : List ℕ) → total (times n ws) ≡ n * total ws
 unfolding times total
 total-times zero ws = omega arith
 total-times (suc n) ws = total-append ws (times n ws) ∙ omega (arith, total-times n ws)
 
-pub times-each : {A : Type 0} (f : A → List ℕ) (ws : List ℕ) → ((x : A) → length ws ≡ length (f x)) → (n : ℕ) (xs : List A) → length xs ≡ n → length (times n ws) ≡ length (each f xs)
+pub times-each : {A : Type 0} (f : A → List ℕ) (ws : List ℕ) → ((x : A) → length ws ≡ length (f x)) → (n : ℕ) (xs : List A)
+    → length xs ≡ n → length (times n ws) ≡ length (each f xs)
 unfolding times each
 times-each f ws h zero [] e = refl
 times-each f ws h zero (x ∷ xs) e = omega arith
@@ -163,7 +169,8 @@ times-each f ws h (suc n) (x ∷ xs) e =
 
 -- ---- what holds of each element
 
-pub holds-set : {A : Type 0} (P : A → Type 0) (xs : List A) (i : ℕ) (d v : A) → ((k : ℕ) → P (getD xs k d)) → P v → (k : ℕ) → P (getD (set xs i v) k d)
+pub holds-set : {A : Type 0} (P : A → Type 0) (xs : List A) (i : ℕ) (d v : A) → ((k : ℕ) → P (getD xs k d)) → P v → (k : ℕ) → P
+    (getD (set xs i v) k d)
 holds-set P [] i d v h p k = h k
 holds-set P (x ∷ xs) zero d v h p zero = p
 holds-set P (x ∷ xs) zero d v h p (suc k) = h (suc k)
@@ -175,7 +182,8 @@ holds-replicate P zero d p k = p
 holds-replicate P (suc n) d p zero = p
 holds-replicate P (suc n) d p (suc k) = holds-replicate P n d p k
 
-pub holds-take : {A : Type 0} (P : A → Type 0) (n : ℕ) (xs : List A) (d : A) → P d → ((k : ℕ) → P (getD xs k d)) → (k : ℕ) → P (getD (take n xs) k d)
+pub holds-take : {A : Type 0} (P : A → Type 0) (n : ℕ) (xs : List A) (d : A) → P d → ((k : ℕ) → P (getD xs k d)) → (k : ℕ) → P
+    (getD (take n xs) k d)
 holds-take P zero xs d p h k = p
 holds-take P (suc n) [] d p h k = p
 holds-take P (suc n) (x ∷ xs) d p h zero = h 0

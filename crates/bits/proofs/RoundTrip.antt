@@ -12,10 +12,12 @@ module _ (ws : List ℕ) (n : ℕ) (whole : total ws ≡ n * 8) where
   -- the fields of the bytes of fields
   pub fields-back : (vs : List ℕ) → Fit ws vs → unpack ws (wordOf (unpack (eights n) (pack ws vs))) ≡ vs
   fields-back vs f =
-      ap (unpack ws) (word-of-bytes n (pack ws vs) (subst (λ (k : ℕ). pack ws vs < 2 ^ k) whole (pack-lt ws vs f))) ∙ unpack-pack ws vs f
+      ap (unpack ws) (word-of-bytes n (pack ws vs) (subst (λ (k : ℕ). pack ws vs < 2 ^ k) whole (pack-lt ws vs f)))
+      ∙ unpack-pack ws vs f
 
   -- the bytes of the fields of bytes
-  pub bytes-back : (img : List ℕ) → length img ≡ n → ((i : ℕ) → getD img i 0 < 2 ^ 8) → unpack (eights n) (pack ws (unpack ws (wordOf img))) ≡ img
+  pub bytes-back : (img : List ℕ) → length img ≡ n → ((i : ℕ) → getD img i 0 < 2 ^ 8) → unpack (eights n)
+      (pack ws (unpack ws (wordOf img))) ≡ img
   bytes-back img l b =
       let small : wordOf img < 2 ^ total ws =
       subst (λ (k : ℕ). wordOf img < 2 ^ k) (total-eights (length img) ∙ ap (λ (k : ℕ). k * 8) l ∙ sym whole)

@@ -44,7 +44,8 @@ module _ {State Sample : Type 0} (clock : State → Clocked State Sample) (c : C
     line : c .line (p .state) ≡ up
     rises : p .stretch .rises ≡ rs
 
-  stays-clear : (m n : ℕ) (p : Point State Sample) {rs : List ℕ} → n + m < 0x7FFF → At (0x8000 + n) false rs p → At (0x8000 + (n + m)) false rs (ticks clock m p)
+  stays-clear : (m n : ℕ) (p : Point State Sample) {rs : List ℕ} → n + m < 0x7FFF → At (0x8000 + n) false rs p → At
+      (0x8000 + (n + m)) false rs (ticks clock m p)
   unfolding ticks tick
   stays-clear zero n p h a = rw add-zero a
   stays-clear (suc m) n p h a =
@@ -65,7 +66,14 @@ module _ {State Sample : Type 0} (clock : State → Clocked State Sample) (c : C
       record {
         counter = rw (c .counts (ticks clock d p .state), b .counter, next-on (n + d) (omega arith)) (omega arith);
         line = rw (c .pends (ticks clock d p .state), b .counter, rises-on (n + d) (omega arith));
-        rises = rw (c .rises (ticks clock d p .state), b .counter, rises-on (n + d) (omega arith), b .rises, ticks-count clock d p, add-suc);
+        rises = rw (
+          c .rises (ticks clock d p .state),
+          b .counter,
+          rises-on (n + d) (omega arith),
+          b .rises,
+          ticks-count clock d p,
+          add-suc,
+        );
       }
 
   -- and after it
@@ -166,7 +174,8 @@ module _ {State Sample Arg Answer : Type 0} (paper : Paper State Sample Arg Answ
 module _ {State Sample Arg Answer : Type 0} (board : Board State Sample Arg Answer) (paper : Paper State Sample Arg Answer)
     (keeps : Keeps board paper) (c : Counter (paper .clock)) where
   -- a call that leaves the counter and the line
-  kept : (a : Arg) (s : State) (x : ℕ) (up : Bool) (k : ℕ) (calls : List (Call Sample Arg)) → Untouched board (c .counter) (c .line) (other a ∷ calls)
+  kept : (a : Arg) (s : State) (x : ℕ) (up : Bool) (k : ℕ) (calls : List (Call Sample Arg)) → Untouched board (c .counter) (c .line)
+      (other a ∷ calls)
       → c .counter s ≡ x → c .line s ≡ up → At (paper .clock) c x up [] (from (otherOf paper a s .state) k)
   kept a s x up k calls u e f =
       record { counter = rw (← keeps .other a s) (u .0 s .0 ∙ e); line = rw (← keeps .other a s) (u .0 s .1 ∙ f); rises = refl }
@@ -177,16 +186,19 @@ module _ {State Sample Arg Answer : Type 0} (board : Board State Sample Arg Answ
       → (allRises (machine paper calls p .trace) ≡ rs) × (c .line (machine paper calls p .state) ≡ true)
   unfolding machine
   list-stays-up [] p a u = (a .rises, a .line)
-  list-stays-up (run n lent ∷ calls) p {rs} a u = go (paper .refusesRun n (length lent) (p .state)) (λ p a. list-stays-up calls p a u)
+  list-stays-up (run n lent ∷ calls) p {rs} a u = go (paper .refusesRun n (length lent) (p .state))
+      (λ p a. list-stays-up calls p a u)
     where
       go : (q : ℕ)
           → ((p : Point State Sample) → At (paper .clock) c 0xFFFF true rs p
           → (allRises (machine paper calls p .trace) ≡ rs) × (c .line (machine paper calls p .state) ≡ true))
-          → let t = machine paper calls (machineRun (paper .clock) q n p) in (allRises (t .trace) ≡ rs) × (c .line (t .state) ≡ true)
+          → let t = machine paper calls (machineRun (paper .clock) q n p) in (allRises (t .trace) ≡ rs) ×
+          (c .line (t .state) ≡ true)
       go zero ih = ih (ticks (paper .clock) n p) (stays-up (paper .clock) c n p a)
       go (suc q) ih = ih p a
   list-stays-up (other b ∷ calls) p a u =
-      let w = list-stays-up calls (from (otherOf paper b (p .state) .state) (p .count)) (kept b (p .state) _ _ _ calls u (a .counter) (a .line)) (u .1) in
+      let w = list-stays-up calls (from (otherOf paper b (p .state) .state) (p .count))
+      (kept b (p .state) _ _ _ calls u (a .counter) (a .line)) (u .1) in
       (rw (w .0, append-nil) (a .rises), w .1)
 
   -- `FirstRise` from a point, where d clocks are to go
@@ -221,16 +233,23 @@ module _ {State Sample Arg Answer : Type 0} (board : Board State Sample Arg Answ
           by : (b : Bool) → ltb j d ≡ b → ListRises calls (ticks (paper .clock) j p) rs (p .count) d more
           by true t =
               let l = ltb-true j d t in
-              let w = ih (ticks (paper .clock) j p) (n + j) (d - j) (more - j) (omega arith) (omega arith) (stays-clear (paper .clock) c j n p (omega arith) a)
+              let w = ih (ticks (paper .clock) j p) (n + j) (d - j) (more - j) (omega arith) (omega arith)
+              (stays-clear (paper .clock) c j n p (omega arith) a)
               (omega (arith, ticks-clocks (paper .clock) j p, far)) in
               let k : ticks (paper .clock) j p .count + (d - j) ≡ p .count + d = omega (arith, ticks-count (paper .clock) j p) in
-              record { early = λ l. w .early (omega (arith, far)); due = λ l. (rw (← k) (w .due (omega arith) .0), w .due (omega arith) .1) }
+              record {
+                early = λ l. w .early (omega (arith, far));
+                due = λ l.
+                    (rw (← k) (w .due (omega arith) .0), w .due (omega arith) .1);
+              }
           by false t =
-              let w = list-stays-up calls (ticks (paper .clock) j p) (raises-within (paper .clock) c j d n p e h (ltb-false j d t) a) u in
+              let w = list-stays-up calls (ticks (paper .clock) j p)
+              (raises-within (paper .clock) c j d n p e h (ltb-false j d t) a) u in
               record { early = λ l. absurd (omega (arith, far, ltb-false j d t)); due = λ l. w }
       go (suc q) ih m = ih p n d more e h a m
   list-rises (other b ∷ calls) p n d more e h a u m =
-      let w = list-rises calls (from (otherOf paper b (p .state) .state) (p .count)) n d more e h (kept b (p .state) _ _ _ calls u (a .counter) (a .line)) (u .1) (omega arith) in
+      let w = list-rises calls (from (otherOf paper b (p .state) .state) (p .count)) n d more e h
+      (kept b (p .state) _ _ _ calls u (a .counter) (a .line)) (u .1) (omega arith) in
       record {
         early = λ l. (rw (w .early l .0, append-nil) (a .rises), w .early l .1);
         due = λ l. (rw (w .due l .0, a .rises), w .due l .1);
@@ -239,7 +258,10 @@ module _ {State Sample Arg Answer : Type 0} (board : Board State Sample Arg Answ
   pub rises-in-time : RisesInTime board (c .counter) (c .line)
   rises-in-time first rest s n more e h f u m =
       record {
-        early = λ l. (rw (plain (first ++ rest), plain first, b .rises-all, b .rises-first, w .early l .0), rw (plain (first ++ rest), b .state-all) (w .early l .1));
+        early = λ l. (
+          rw (plain (first ++ rest), plain first, b .rises-all, b .rises-first, w .early l .0),
+          rw (plain (first ++ rest), b .state-all) (w .early l .1),
+        );
         due =
             λ l. (
               rw (plain (first ++ rest), plain first, b .rises-all, b .rises-first, w .due l .0, ← k, append-assoc),

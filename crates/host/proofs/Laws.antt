@@ -48,13 +48,16 @@ read-number img = go (eqb (firstOf (readChecks img)) 0) refl
 
 module _ (img : List ℕ) (own : List Check) (lent : List ℕ) (g : Gives) where
   -- an image that is refused: the call answers its number
-  pub stopped : (readImage img .refusal ≡ 0 → ⊥) → unlessRefused (onImage img own) img lent g ≡ record { word = readImage img .refusal; image = img; lent = lent }
+  pub stopped : (readImage img .refusal ≡ 0 → ⊥) → unlessRefused (onImage img own) img lent g
+      ≡ record { word = readImage img .refusal; image = img; lent = lent }
   stopped h =
       let d = first-done (readChecks img) own (λ e. h (read-number img ∙ e)) ∙ sym (read-number img) in
-      refused-gives (onImage img own) img lent g (λ e. h (sym d ∙ e)) ∙ ap (λ (q : ℕ). record { word = q; image = img; lent = lent }) d
+      refused-gives (onImage img own) img lent g (λ e. h (sym d ∙ e))
+      ∙ ap (λ (q : ℕ). record { word = q; image = img; lent = lent }) d
 
   -- an image that is accepted: the call goes on with its state
-  pub onward : readImage img .refusal ≡ 0 → unlessRefused (onImage img own) img lent g ≡ unlessRefused (stateCheck (stateIn img) ∷ own) img lent g
+  pub onward : readImage img .refusal ≡ 0 → unlessRefused (onImage img own) img lent g ≡ unlessRefused
+      (stateCheck (stateIn img) ∷ own) img lent g
   unfolding firstOf
   onward e =
       let h = accepted-in-range img e in
@@ -76,7 +79,8 @@ written-in-range s img l e = rw (eq-eqb (length img) imageBytes l, e)
 
 module _ (cs : List Check) (img lent : List ℕ) (g : Gives) (q : ℕ) (is : q ≡ firstOf cs) where
   pub call-refused : (q ≡ 0 → ⊥) → record { word = q; image = img; lent = lent } ≡ unlessRefused cs img lent g
-  call-refused h = ap (λ (x : ℕ). record { word = x; image = img; lent = lent }) is ∙ sym (refused-gives cs img lent g (λ e. h (is ∙ e)))
+  call-refused h = ap (λ (x : ℕ). record { word = x; image = img; lent = lent }) is
+      ∙ sym (refused-gives cs img lent g (λ e. h (is ∙ e)))
 
   pub call-accepted : q ≡ 0 → g ≡ unlessRefused cs img lent g
   call-accepted e = sym (accepted-gives cs img lent g (sym is ∙ e))
@@ -108,6 +112,7 @@ load-state mapper sub flags known sizes len e = rw e
 
 -- ---- a read outside the sound port
 
-pub still-read : (s : State) (arena : List ℕ) (addr : ℕ) → 0x5000 ≤ addr → firstOf (cpuChecks s (length arena) addr) ≡ 0 → cpuRead s arena addr .state ≡ s
+pub still-read : (s : State) (arena : List ℕ) (addr : ℕ) → 0x5000 ≤ addr → firstOf (cpuChecks s (length arena) addr) ≡ 0
+    → cpuRead s arena addr .state ≡ s
 unfolding cpuRead afterRead
 still-read s arena addr h e = rw (e, le-ltb addr 0x4800 (omega arith), le-ltb addr 0x5000 h)

@@ -11,7 +11,8 @@ use Rattle.range.proofs.Decided.{Decided, decided}
 use Rattle.host.specs.Host.{onImage, stateIn, cpuOwn, runOwn}
 
 -- 1, 4, 5, 6, 7
-pub load-decided : (img arena : List ℕ) (mapper : ℕ) (sizes : MemoryLayout) → Decided (imageCheck (length img) ∷ loadChecks mapper sizes (length arena))
+pub load-decided : (img arena : List ℕ) (mapper : ℕ) (sizes : MemoryLayout) → Decided
+    (imageCheck (length img) ∷ loadChecks mapper sizes (length arena))
 load-decided img arena mapper sizes = decided _ (omega arith, (omega arith, (omega arith, (omega arith, (omega arith, tt)))))
 
 -- 1, 2, 3

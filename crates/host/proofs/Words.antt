@@ -48,38 +48,46 @@ first-small (c ∷ cs) h = go (c .holds) (first-small cs (h .1))
     go true rest = h .0
     go false rest = rest
 
-low-bits : (cs : List Check) (img lent : List ℕ) (g : Gives) → Small cs → g .word % 256 ≡ 0 → unlessRefused cs img lent g .word % 256 ≡ firstOf cs
+low-bits : (cs : List Check) (img lent : List ℕ) (g : Gives) → Small cs → g .word % 256 ≡ 0
+    → unlessRefused cs img lent g .word % 256 ≡ firstOf cs
 low-bits cs img lent g h e = go (eqb (firstOf cs) 0) refl
   where
-    go : (t : Bool) → eqb (firstOf cs) 0 ≡ t → cond t g (record { word = firstOf cs; image = img; lent = lent }) .word % 256 ≡ firstOf cs
+    go : (t : Bool) → eqb (firstOf cs) 0 ≡ t → cond t g (record { word = firstOf cs; image = img; lent = lent }) .word % 256
+        ≡ firstOf cs
     go true q = e ∙ sym (eqb-true (firstOf cs) 0 q)
     go false q = omega (arith, first-small cs h)
 
 pub load-number : (img arena : List ℕ) (mapper sub flags known : ℕ) (sizes : MemoryLayout)
-    → hostLoad img arena mapper sub flags known sizes .word % 256 ≡ firstOf (imageCheck (length img) ∷ loadChecks mapper sizes (length arena))
+    → hostLoad img arena mapper sub flags known sizes .word % 256 ≡ firstOf
+    (imageCheck (length img) ∷ loadChecks mapper sizes (length arena))
 unfolding hostLoad
 load-number img arena mapper sub flags known sizes =
-    low-bits (imageCheck (length img) ∷ loadChecks mapper sizes (length arena)) img arena (loadGives arena mapper sub flags known sizes)
+    low-bits (imageCheck (length img) ∷ loadChecks mapper sizes (length arena)) img arena
+    (loadGives arena mapper sub flags known sizes)
     (omega arith, (omega arith, (omega arith, (omega arith, (omega arith, tt))))) refl
 
 pub reset-number : (img : List ℕ) (kind : ℕ) → hostReset img kind .word % 256 ≡ firstOf (onImage img (kindCheck kind ∷ []))
 unfolding hostReset
 reset-number img kind =
-    low-bits (onImage img (kindCheck kind ∷ [])) img [] (resetGives (stateIn img) kind) (omega arith, (omega arith, (omega arith, tt))) refl
+    low-bits (onImage img (kindCheck kind ∷ [])) img [] (resetGives (stateIn img) kind)
+    (omega arith, (omega arith, (omega arith, tt))) refl
 
-pub read-number : (img arena : List ℕ) (addr : ℕ) → hostRead img arena addr .word % 256 ≡ firstOf (onImage img (cpuOwn (stateIn img) arena addr))
+pub read-number : (img arena : List ℕ) (addr : ℕ) → hostRead img arena addr .word % 256 ≡ firstOf
+    (onImage img (cpuOwn (stateIn img) arena addr))
 unfolding hostRead
 read-number img arena addr =
     low-bits (onImage img (cpuOwn (stateIn img) arena addr)) img arena (readGives (stateIn img) arena addr)
     (omega arith, (omega arith, (omega arith, (omega arith, tt)))) (omega arith)
 
-pub write-number : (img arena : List ℕ) (addr v : ℕ) → hostWrite img arena addr v .word % 256 ≡ firstOf (onImage img (cpuOwn (stateIn img) arena addr))
+pub write-number : (img arena : List ℕ) (addr v : ℕ) → hostWrite img arena addr v .word % 256 ≡ firstOf
+    (onImage img (cpuOwn (stateIn img) arena addr))
 unfolding hostWrite
 write-number img arena addr v =
     low-bits (onImage img (cpuOwn (stateIn img) arena addr)) img arena (writeGives (stateIn img) arena addr v)
     (omega arith, (omega arith, (omega arith, (omega arith, tt)))) (omega (arith, cpu-write-mask (stateIn img) arena addr v))
 
-pub run-number : (img samples : List ℕ) (n : ℕ) → hostRun img samples n .word % 256 ≡ firstOf (onImage img (runOwn (stateIn img) samples n))
+pub run-number : (img samples : List ℕ) (n : ℕ) → hostRun img samples n .word % 256 ≡ firstOf
+    (onImage img (runOwn (stateIn img) samples n))
 unfolding hostRun
 run-number img samples n =
     low-bits (onImage img (runOwn (stateIn img) samples n)) img samples (runGives (stateIn img) samples n)
@@ -123,7 +131,8 @@ chr-count img =
     let parts = fit-cut partWidths (fieldsOf img) (fit-unpack widths _) in
     pages-count 16 _ (parts .1 .1 .1 .1 .1 .1 .1 .1 .1 .1 .1 .0)
 
-either-small : (t : Bool) (a b : Written) → a .changed .chr .mask < 65536 → b .changed .chr .mask < 65536 → cond t a b .changed .chr .mask < 65536
+either-small : (t : Bool) (a b : Written) → a .changed .chr .mask < 65536 → b .changed .chr .mask < 65536
+    → cond t a b .changed .chr .mask < 65536
 either-small true a b h k = h
 either-small false a b h k = k
 

@@ -18,7 +18,8 @@ use Rattle.image.specs.Image.{joined, byteAt}
 
 -- ---- words of fields of one width
 
-pub pack-snoc : (n w : ℕ) (vs : List ℕ) (v : ℕ) → length vs ≡ n → pack (replicate (n + 1) w) (vs ++ v ∷ []) ≡ pack (replicate n w) vs * 2 ^ w + v
+pub pack-snoc : (n w : ℕ) (vs : List ℕ) (v : ℕ) → length vs ≡ n → pack (replicate (n + 1) w) (vs ++ v ∷ []) ≡ pack
+    (replicate n w) vs * 2 ^ w + v
 unfolding pack total
 pack-snoc n w vs v e =
     ap (λ (ws : List ℕ). pack ws (vs ++ v ∷ [])) (sym (replicate-snoc n w))
@@ -30,7 +31,8 @@ map-append f [] ys = refl
 map-append f (x ∷ xs) ys = ap (λ (l : List ℕ). f x ∷ l) (map-append f xs ys)
 
 pub flags-more : (xs : List Bool) (i : ℕ) → i < length xs
-    → pack (replicate (i + 1) 1) (map bit (take (i + 1) xs)) ≡ pack (replicate i 1) (map bit (take i xs)) * 2 + bit (getD xs i false)
+    → pack (replicate (i + 1) 1) (map bit (take (i + 1) xs)) ≡ pack (replicate i 1) (map bit (take i xs)) * 2 + bit
+    (getD xs i false)
 flags-more xs i h =
     ap (λ (l : List Bool). pack (replicate (i + 1) 1) (map bit l)) (ap (λ (k : ℕ). take k xs) (add-one i) ∙ take-suc xs i false h)
     ∙ ap (pack (replicate (i + 1) 1)) (map-append bit (take i xs) (getD xs i false ∷ []))
@@ -63,7 +65,8 @@ pub byte-held : (k : ℕ) → Held (byteAt k)
 byte-held k = record { few = omega arith; small = omega arith }
 
 -- a write that ends with a byte
-pub wrote-to : (a b : List ℕ) (j k : ℕ) (w : Cursor) (ws vs : List ℕ) → j * 8 + total ws ≡ k * 8 → Wrote a b (byteAt j) w ws vs → Wrote a b (byteAt j) (byteAt k) ws vs
+pub wrote-to : (a b : List ℕ) (j k : ℕ) (w : Cursor) (ws vs : List ℕ) → j * 8 + total ws ≡ k * 8 → Wrote a b (byteAt j) w ws vs
+    → Wrote a b (byteAt j) (byteAt k) ws vs
 wrote-to a b j k w ws vs e p = rw (← at-byte w k (p .held) (omega (arith, p .pos))) p
 
 pub each-map : {A : Type 0} (f : A → ℕ) (xs : List A) → each (λ x. f x ∷ []) xs ≡ map f xs
@@ -103,7 +106,8 @@ take-four {A = A} d xs i h =
     (four d (drop i xs) (rw length-drop (omega arith))
     ∙ rw (getD-drop i xs 0 d, getD-drop i xs 1 d, getD-drop i xs 2 d, getD-drop i xs 3 d, let e : i + 0 ≡ i = omega arith in e))
 
-wrote-four : {A : Type 0} (f : A → List ℕ) (ws : List ℕ) (d : A) → ((x : A) → length ws ≡ length (f x)) → (a b c : List ℕ) (u v w : Cursor) (xs : List A) (i : ℕ) → i + 4 ≤ length xs
+wrote-four : {A : Type 0} (f : A → List ℕ) (ws : List ℕ) (d : A) → ((x : A) → length ws ≡ length (f x)) → (a b c : List ℕ)
+    (u v w : Cursor) (xs : List A) (i : ℕ) → i + 4 ≤ length xs
     → Wrote a b u v (times i ws) (each f (take i xs)) → Wrote b c v w (times 4 ws) (each f (fourAt d xs i))
     → Wrote a c u w (times (i + 4) ws) (each f (take (i + 4) xs))
 wrote-four f ws d h a b c u v w xs i l p q =
@@ -115,7 +119,8 @@ wrote-four f ws d h a b c u v w xs i l p q =
 pub wrote-eight : {A : Type 0} (f : A → List ℕ) (ws : List ℕ) (d : A) → ((x : A) → length ws ≡ length (f x)) → total ws ≡ 11
     → (a b m c : List ℕ) (p k : ℕ) (v w : Cursor) (xs : List A) → k * 8 + 8 ≤ length xs
     → Wrote a b (byteAt p) (byteAt (p + k * 11)) (times (k * 8) ws) (each f (take (k * 8) xs))
-    → Wrote b m (byteAt (p + k * 11)) v (times 4 ws) (each f (fourAt d xs (k * 8))) → Wrote m c v w (times 4 ws) (each f (fourAt d xs (k * 8 + 4)))
+    → Wrote b m (byteAt (p + k * 11)) v (times 4 ws) (each f (fourAt d xs (k * 8))) → Wrote m c v w (times 4 ws)
+    (each f (fourAt d xs (k * 8 + 4)))
     → Wrote a c (byteAt p) (byteAt (p + (k + 1) * 11)) (times ((k + 1) * 8) ws) (each f (take ((k + 1) * 8) xs))
 wrote-eight f ws d h t a b m c p k v w xs l q r s =
     let e : (k + 1) * 8 ≡ k * 8 + 4 + 4 = omega arith in
@@ -158,12 +163,15 @@ unfolding joined
 joined-lengths [] [] h = refl
 joined-lengths [] (v ∷ vs) h = absurd h
 joined-lengths (w ∷ ws) [] h = absurd h
-joined-lengths (w ∷ ws) (v ∷ vs) h = omega (arith, length-append w (joined ws), length-append v (joined vs), h .0, joined-lengths ws vs (h .1))
+joined-lengths (w ∷ ws) (v ∷ vs) h =
+    omega (arith, length-append w (joined ws), length-append v (joined vs), h .0, joined-lengths ws vs (h .1))
 
 pub wrote-parts : (a b c : List ℕ) (u v w : Cursor) (ws vs us xs : List (List ℕ)) → SameLengths ws vs
-    → Wrote a b u v (joined ws) (joined vs) → Wrote b c v w (joined us) (joined xs) → Wrote a c u w (joined (ws ++ us)) (joined (vs ++ xs))
+    → Wrote a b u v (joined ws) (joined vs) → Wrote b c v w (joined us) (joined xs) → Wrote a c u w (joined (ws ++ us))
+    (joined (vs ++ xs))
 wrote-parts a b c u v w ws vs us xs h p q =
-    rw (joined-append ws us, joined-append vs xs) (wrote-append a b c u v w (joined ws) (joined vs) (joined us) (joined xs) (joined-lengths ws vs h) p q)
+    rw (joined-append ws us, joined-append vs xs)
+    (wrote-append a b c u v w (joined ws) (joined vs) (joined us) (joined xs) (joined-lengths ws vs h) p q)
 
 pub wrote-end : (a : List ℕ) (w : Cursor) → Held w → Wrote a a w w (joined []) (joined [])
 unfolding joined

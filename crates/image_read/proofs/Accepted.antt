@@ -28,11 +28,13 @@ pub refused-length : (img : List ℕ) → (length img ≡ 307 → ⊥) → readI
 unfolding readImage firstOf
 refused-length img h = rw (ne-eqb (length img) 307 h)
 
-pub refused-fields : (img : List ℕ) → length img ≡ 307 → fieldsOk (fieldsOf img) ≡ false → readImage img ≡ record { refusal = 2; state = noState }
+pub refused-fields : (img : List ℕ) → length img ≡ 307 → fieldsOk (fieldsOf img) ≡ false → readImage img
+    ≡ record { refusal = 2; state = noState }
 unfolding readImage firstOf
 refused-fields img l e = rw (eq-eqb (length img) 307 l, e)
 
-pub accepted : (img : List ℕ) → length img ≡ 307 → fieldsOk (fieldsOf img) ≡ true → readImage img ≡ record { refusal = 0; state = stateOf (fieldsOf img) }
+pub accepted : (img : List ℕ) → length img ≡ 307 → fieldsOk (fieldsOf img) ≡ true → readImage img
+    ≡ record { refusal = 0; state = stateOf (fieldsOf img) }
 unfolding readImage firstOf
 accepted img l e = rw (eq-eqb (length img) 307 l, e)
 
@@ -49,13 +51,15 @@ module _ (img : List ℕ) (long : length img ≡ imageBytes) (bs : Bytes img) (h
 
   ok-is : fieldsOk (fieldsOf img) ≡ leb (h .kind / 2 % 8) 4 && inRange held
   unfolding fieldsOk unpack total
-  ok-is = ap₂ (λ (p : List (List ℕ)) (s : State). leb (getD (part p 1) 1 0) 4 && inRange s) (image-parts img long bs h head) state-is
+  ok-is = ap₂ (λ (p : List (List ℕ)) (s : State). leb (getD (part p 1) 1 0) 4 && inRange s)
+      (image-parts img long bs h head) state-is
 
   pub refused-mirroring : 4 < h .kind / 2 % 8 → readImage img ≡ record { refusal = 2; state = noState }
   refused-mirroring l = refused-fields img long (ok-is ∙ rw (lt-leb (h .kind / 2 % 8) 4 l))
 
   pub refused-range : inRange held ≡ false → readImage img ≡ record { refusal = 2; state = noState }
-  refused-range e = refused-fields img long (ok-is ∙ ap (λ (t : Bool). leb (h .kind / 2 % 8) 4 && t) e ∙ and-no (leb (h .kind / 2 % 8) 4))
+  refused-range e = refused-fields img long
+      (ok-is ∙ ap (λ (t : Bool). leb (h .kind / 2 % 8) 4 && t) e ∙ and-no (leb (h .kind / 2 % 8) 4))
     where
       and-no : (b : Bool) → b && false ≡ false
       and-no true = refl
@@ -66,8 +70,10 @@ module _ (img : List ℕ) (long : length img ≡ imageBytes) (bs : Bytes img) (h
   refused-out l = refused-range (go (inRange held) refl)
     where
       go : (t : Bool) → inRange held ≡ t → inRange held ≡ false
-      go true e = absurd (let m = out-most bits small (sound-facts (held .chip .audio) (state-facts held e .audio) .out) in omega arith)
+      go true e = absurd (let m = out-most bits small
+          (sound-facts (held .chip .audio) (state-facts held e .audio) .out) in omega arith)
       go false e = e
 
   pub accepted-state : h .kind / 2 % 8 ≤ 4 → inRange held ≡ true → readImage img ≡ record { refusal = 0; state = held }
-  accepted-state m e = accepted img long (ok-is ∙ rw (le-leb (h .kind / 2 % 8) 4 m, e)) ∙ ap (λ (s : State). record { refusal = 0; state = s }) state-is
+  accepted-state m e = accepted img long (ok-is ∙ rw (le-leb (h .kind / 2 % 8) 4 m, e))
+      ∙ ap (λ (s : State). record { refusal = 0; state = s }) state-is

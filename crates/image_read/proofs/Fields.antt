@@ -43,7 +43,8 @@ eight o (a ∷ b ∷ c ∷ d ∷ e ∷ f ∷ g ∷ []) l = absurd (let z : ⊥ =
 -- ---- the fields of one word
 
 module _ (img : List ℕ) (w : ℕ) where
-  pub port-at : w ≡ wordOf (take 2 (drop 151 img)) → fieldsAt (part soundWidths 1) img 151 2 ≡ w / 512 % 128 ∷ w / 256 % 2 ∷ w / 128 % 2 ∷ w / 8 % 16 ∷ w % 8 ∷ []
+  pub port-at : w ≡ wordOf (take 2 (drop 151 img)) → fieldsAt (part soundWidths 1) img 151 2
+      ≡ w / 512 % 128 ∷ w / 256 % 2 ∷ w / 128 % 2 ∷ w / 8 % 16 ∷ w % 8 ∷ []
   unfolding fieldsAt unpack total
   port-at e = rw (← e, div-one w)
 
@@ -52,7 +53,8 @@ module _ (img : List ℕ) (w : ℕ) where
   out-at e h = rw (← e, div-one w, mod-eq-of-lt h)
 
   pub layout-at : w ≡ wordOf (take 4 (drop 303 img))
-      → fieldsAt (part memoryWidths 2) img 303 4 ≡ w / 0x400000 % 1024 ∷ w / 0x8000 % 128 ∷ w / 0x4000 % 2 ∷ w / 32 % 512 ∷ w / 16 % 2 ∷ w / 2 % 8 ∷ w % 2 ∷ []
+      → fieldsAt (part memoryWidths 2) img 303 4
+      ≡ w / 0x400000 % 1024 ∷ w / 0x8000 % 128 ∷ w / 0x4000 % 2 ∷ w / 32 % 512 ∷ w / 16 % 2 ∷ w / 2 % 8 ∷ w % 2 ∷ []
   unfolding fieldsAt unpack total
   layout-at e = rw (← e, div-one w)
 

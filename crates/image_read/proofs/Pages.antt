@@ -55,11 +55,13 @@ four-pages w h =
     ∷ []
 
 -- eight entries of two words
-pub eight-pages : (w : Eight) → w .first < 2 ^ 44 → w .last < 2 ^ 44 → fourIn (w .first) ++ fourIn (w .last) ≡ pagesOf (eightFields w)
+pub eight-pages : (w : Eight) → w .first < 2 ^ 44 → w .last < 2 ^ 44 → fourIn (w .first) ++ fourIn (w .last) ≡ pagesOf
+    (eightFields w)
 eight-pages w ha hb =
     let us = unpack (times 4 pageWidths) (w .first) in
     let vs = unpack (times 4 pageWidths) (w .last) in
-    ap₂ (λ (s t : List Page). s ++ t) (four-pages (w .first) ha) (four-pages (w .last) hb) ∙ sym (pages-append 4 us vs (fit-unpack (times 4 pageWidths) (w .first)))
+    ap₂ (λ (s t : List Page). s ++ t) (four-pages (w .first) ha) (four-pages (w .last) hb)
+    ∙ sym (pages-append 4 us vs (fit-unpack (times 4 pageWidths) (w .first)))
 
 take-set-four : (xs : List Page) (i : ℕ) (p q r s : Page) → i + 4 ≤ length xs
     → take (i + 4) (set (set (set (set xs i p) (i + 1) q) (i + 2) r) (i + 3) s) ≡ take i xs ++ p ∷ q ∷ r ∷ s ∷ []
@@ -105,7 +107,8 @@ take-set-eight xs g i h l =
     let e8 : i + 4 + 4 ≡ i + 8 = omega arith in
     rw (e5, e6, e7, e8) at back
     ∙ ap (λ (t : List Page). t ++ getD g 4 o ∷ getD g 5 o ∷ getD g 6 o ∷ getD g 7 o ∷ []) front
-    ∙ append-assoc (take i xs) (getD g 0 o ∷ getD g 1 o ∷ getD g 2 o ∷ getD g 3 o ∷ []) (getD g 4 o ∷ getD g 5 o ∷ getD g 6 o ∷ getD g 7 o ∷ [])
+    ∙ append-assoc (take i xs) (getD g 0 o ∷ getD g 1 o ∷ getD g 2 o ∷ getD g 3 o ∷ [])
+    (getD g 4 o ∷ getD g 5 o ∷ getD g 6 o ∷ getD g 7 o ∷ [])
     ∙ ap (λ (t : List Page). take i xs ++ t) (sym (eight o g l))
 
 -- ---- eight entries in 11 bytes
@@ -143,14 +146,18 @@ two-words S ws us x y hx hy =
     ∙ ap (λ (T : ℕ). after T us (unpack us y)) (word-fields S ws x hx)
     ∙ after-append S ws (unpack ws x) us (unpack us y) (sym (length-unpack ws x))
 
-eight-fields : (img : List ℕ) (p q : Cursor) (w : Eight) → Read img p q (44 ∷ 44 ∷ []) (w .first ∷ w .last ∷ []) → Read img p q (times 8 pageWidths) (eightFields w)
+eight-fields : (img : List ℕ) (p q : Cursor) (w : Eight) → Read img p q (44 ∷ 44 ∷ []) (w .first ∷ w .last ∷ []) → Read img p q
+    (times 8 pageWidths) (eightFields w)
 unfolding total times
 eight-fields img p q w f =
     record {
       behind = f .behind;
       pos = omega (arith, f .pos);
-      fit = fit-append (times 4 pageWidths) (times 4 pageWidths) (unpack (times 4 pageWidths) (w .first)) (unpack (times 4 pageWidths) (w .last)) (fit-unpack (times 4 pageWidths) (w .first)) (fit-unpack (times 4 pageWidths) (w .last));
-      bits = f .bits ∙ two-words (bitsRead img p) (times 4 pageWidths) (times 4 pageWidths) (w .first) (w .last) (f .fit .0) (f .fit .1 .0);
+      fit = fit-append (times 4 pageWidths) (times 4 pageWidths) (unpack (times 4 pageWidths) (w .first))
+          (unpack (times 4 pageWidths) (w .last)) (fit-unpack (times 4 pageWidths) (w .first))
+          (fit-unpack (times 4 pageWidths) (w .last));
+      bits = f .bits ∙ two-words (bitsRead img p) (times 4 pageWidths) (times 4 pageWidths) (w .first) (w .last) (f .fit .0)
+          (f .fit .1 .0);
     }
 
 -- the entries of the first k groups are those of the fields read
@@ -164,7 +171,8 @@ unfolding times pagesOf
 pages-none img a xs = record { vs = []; read = rw (add-zero a) (read-none img (byteAt a) (byte-behind img a)); same = refl }
 
 pub pages-more : (img : List ℕ) (a k : ℕ) (w : Eight) (xs g : List Page) → k * 8 + 8 ≤ length xs → PagesRead img a k xs
-    → Read img (byteAt (a + k * 11)) (byteAt (a + k * 11 + 11)) (44 ∷ 44 ∷ []) (w .first ∷ w .last ∷ []) → g ≡ pagesOf (eightFields w) → length g ≡ 8
+    → Read img (byteAt (a + k * 11)) (byteAt (a + k * 11 + 11)) (44 ∷ 44 ∷ []) (w .first ∷ w .last ∷ []) → g ≡ pagesOf
+    (eightFields w) → length g ≡ 8
     → PagesRead img a (k + 1) (setEight xs (k * 8) g)
 pages-more img a k w xs g h p f e l =
     let us = eightFields w in
@@ -175,11 +183,13 @@ pages-more img a k w xs g h p f e l =
       vs = p .vs ++ us;
       read =
           rw (e11, e8, ea, times-add (k * 8) 8 pageWidths)
-          (read-append img (byteAt a) (byteAt (a + k * 11)) (byteAt (a + k * 11 + 11)) (times (k * 8) pageWidths) (p .vs) (times 8 pageWidths) us (p .read)
+          (read-append img (byteAt a) (byteAt (a + k * 11)) (byteAt (a + k * 11 + 11)) (times (k * 8) pageWidths) (p .vs)
+          (times 8 pageWidths) us (p .read)
           (eight-fields img (byteAt (a + k * 11)) (byteAt (a + k * 11 + 11)) w f));
       same =
           rw e8
-          (take-set-eight xs g (k * 8) h l ∙ ap₂ (λ (s t : List Page). s ++ t) (p .same) e ∙ sym (pages-append (k * 8) (p .vs) us (p .read .fit)));
+          (take-set-eight xs g (k * 8) h l ∙ ap₂ (λ (s t : List Page). s ++ t) (p .same) e
+          ∙ sym (pages-append (k * 8) (p .vs) us (p .read .fit)));
     }
 
 pub pages-done : (img : List ℕ) (a k : ℕ) (xs : List Page) → a + k * 11 ≤ length img → length xs ≡ k * 8 → PagesRead img a k xs
@@ -187,4 +197,5 @@ pub pages-done : (img : List ℕ) (a k : ℕ) (xs : List Page) → a + k * 11 �
 unfolding total
 pages-done img a k xs h l g =
     let t : total (times (k * 8) pageWidths) ≡ k * 11 * 8 = omega (arith, total-times (k * 8) pageWidths) in
-    sym (take-all (k * 8) xs (omega arith)) ∙ g .same ∙ ap pagesOf (sym (section-is img a (k * 11) h (byteAt (a + k * 11)) (times (k * 8) pageWidths) (g .vs) t (g .read)))
+    sym (take-all (k * 8) xs (omega arith)) ∙ g .same
+    ∙ ap pagesOf (sym (section-is img a (k * 11) h (byteAt (a + k * 11)) (times (k * 8) pageWidths) (g .vs) t (g .read)))

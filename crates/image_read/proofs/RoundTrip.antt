@@ -69,7 +69,8 @@ module _ (s : State) (t : Typed s) (e : inRange s ≡ true) where
   ok : fieldsOk (fieldsOf (imageOf s)) ≡ true
   unfolding fieldsOk
   ok =
-      ap₂ (λ (p : List (List ℕ)) (x : State). leb (getD (part p 1) 1 0) 4 && inRange x) (ap (cutInto partWidths) fields-are ∙ cut) state
+      ap₂ (λ (p : List (List ℕ)) (x : State). leb (getD (part p 1) 1 0) 4 && inRange x)
+      (ap (cutInto partWidths) fields-are ∙ cut) state
       ∙ rw (le-leb _ 4 (mirroring-most (s .chip .mirroring)), e)
 
   long : length (imageOf s) ≡ imageBytes
@@ -82,7 +83,8 @@ module _ (s : State) (t : Typed s) (e : inRange s ≡ true) where
 
 -- ---- an accepted image, its state, and that image again
 
-again : (img : List ℕ) → Bytes img → length img ≡ imageBytes → fieldsOk (fieldsOf img) ≡ true → imageOf (stateOf (fieldsOf img)) ≡ img
+again : (img : List ℕ) → Bytes img → length img ≡ imageBytes → fieldsOk (fieldsOf img) ≡ true → imageOf (stateOf (fieldsOf img))
+    ≡ img
 unfolding imageOf fieldsOk fieldsOf
 again img b l e =
     let vs = fieldsOf img in

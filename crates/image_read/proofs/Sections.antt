@@ -50,7 +50,8 @@ module _ (img : List ℕ) (a k : ℕ) (inside : a + k ≤ length img) where
       let r = bytes-read img (byteAt a) (byteAt (a + k)) xs k refl refl inside bs refl refl refl refl in
       let f : Fit (eights (length xs)) xs = subst (λ (m : ℕ). Fit (eights m) xs) (sym long-mid) (r .fit) in
       let small : wordOf xs < 2 ^ total ws =
-      subst (λ (m : ℕ). wordOf xs < 2 ^ m) (total-eights (length xs) ∙ ap (λ (m : ℕ). m * 8) long-mid ∙ sym t) (pack-lt (eights (length xs)) xs f) in
+      subst (λ (m : ℕ). wordOf xs < 2 ^ m) (total-eights (length xs) ∙ ap (λ (m : ℕ). m * 8) long-mid ∙ sym t)
+      (pack-lt (eights (length xs)) xs f) in
       record {
         behind = r .behind;
         pos = omega (arith, t);
@@ -62,7 +63,8 @@ module _ (img : List ℕ) (a k : ℕ) (inside : a + k ≤ length img) where
 
 -- ---- parts one behind the other
 
-pub read-part : (img : List ℕ) (p q r : Cursor) (ws vs : List ℕ) (wss vss : List (List ℕ)) → Read img p q ws vs → Read img q r (joined wss) (joined vss)
+pub read-part : (img : List ℕ) (p q r : Cursor) (ws vs : List ℕ) (wss vss : List (List ℕ)) → Read img p q ws vs → Read img q r
+    (joined wss) (joined vss)
     → Read img p r (joined (ws ∷ wss)) (joined (vs ∷ vss))
 unfolding joined
 read-part img p q r ws vs wss vss f g = read-append img p q r ws vs (joined wss) (joined vss) f g
@@ -95,7 +97,9 @@ soundParts img =
     ∷ []
 
 abbrev pub memoryParts : List ℕ → List (List ℕ)
-memoryParts img = fieldsAt (part memoryWidths 0) img 193 88 ∷ fieldsAt (part memoryWidths 1) img 281 22 ∷ fieldsAt (part memoryWidths 2) img 303 4 ∷ []
+memoryParts img =
+    fieldsAt (part memoryWidths 0) img 193 88 ∷ fieldsAt (part memoryWidths 1) img 281 22 ∷ fieldsAt
+    (part memoryWidths 2) img 303 4 ∷ []
 
 long-at : (ws img : List ℕ) (a k : ℕ) → length ws ≡ length (fieldsAt ws img a k)
 unfolding fieldsAt
@@ -120,14 +124,22 @@ module _ (img : List ℕ) (long : length img ≡ imageBytes) (bs : Bytes img) wh
   read-rest : Read img (byteAt 23) (byteAt 307) (joined (soundWidths ++ memoryWidths)) (joined rest)
   unfolding total
   read-rest =
-      read-part img (byteAt 23) (byteAt 151) (byteAt 307) (part soundWidths 0) (part rest 0) _ _ (section-read img 23 128 (omega arith) bs (part soundWidths 0) refl)
-      (read-part img (byteAt 151) (byteAt 153) (byteAt 307) (part soundWidths 1) (part rest 1) _ _ (section-read img 151 2 (omega arith) bs (part soundWidths 1) refl)
-      (read-part img (byteAt 153) (byteAt 165) (byteAt 307) (part soundWidths 2) (part rest 2) _ _ (section-read img 153 12 (omega arith) bs (part soundWidths 2) refl)
-      (read-part img (byteAt 165) (byteAt 169) (byteAt 307) (part soundWidths 3) (part rest 3) _ _ (section-read img 165 4 (omega arith) bs (part soundWidths 3) refl)
-      (read-part img (byteAt 169) (byteAt 193) (byteAt 307) (part soundWidths 4) (part rest 4) _ _ (section-read img 169 24 (omega arith) bs (part soundWidths 4) refl)
-      (read-part img (byteAt 193) (byteAt 281) (byteAt 307) (part memoryWidths 0) (part rest 5) _ _ (section-read img 193 88 (omega arith) bs (part memoryWidths 0) prg-bits)
-      (read-part img (byteAt 281) (byteAt 303) (byteAt 307) (part memoryWidths 1) (part rest 6) _ _ (section-read img 281 22 (omega arith) bs (part memoryWidths 1) chr-bits)
-      (read-part img (byteAt 303) (byteAt 307) (byteAt 307) (part memoryWidths 2) (part rest 7) [] [] (section-read img 303 4 (omega arith) bs (part memoryWidths 2) refl)
+      read-part img (byteAt 23) (byteAt 151) (byteAt 307) (part soundWidths 0) (part rest 0) _ _
+      (section-read img 23 128 (omega arith) bs (part soundWidths 0) refl)
+      (read-part img (byteAt 151) (byteAt 153) (byteAt 307) (part soundWidths 1) (part rest 1) _ _
+      (section-read img 151 2 (omega arith) bs (part soundWidths 1) refl)
+      (read-part img (byteAt 153) (byteAt 165) (byteAt 307) (part soundWidths 2) (part rest 2) _ _
+      (section-read img 153 12 (omega arith) bs (part soundWidths 2) refl)
+      (read-part img (byteAt 165) (byteAt 169) (byteAt 307) (part soundWidths 3) (part rest 3) _ _
+      (section-read img 165 4 (omega arith) bs (part soundWidths 3) refl)
+      (read-part img (byteAt 169) (byteAt 193) (byteAt 307) (part soundWidths 4) (part rest 4) _ _
+      (section-read img 169 24 (omega arith) bs (part soundWidths 4) refl)
+      (read-part img (byteAt 193) (byteAt 281) (byteAt 307) (part memoryWidths 0) (part rest 5) _ _
+      (section-read img 193 88 (omega arith) bs (part memoryWidths 0) prg-bits)
+      (read-part img (byteAt 281) (byteAt 303) (byteAt 307) (part memoryWidths 1) (part rest 6) _ _
+      (section-read img 281 22 (omega arith) bs (part memoryWidths 1) chr-bits)
+      (read-part img (byteAt 303) (byteAt 307) (byteAt 307) (part memoryWidths 2) (part rest 7) [] []
+      (section-read img 303 4 (omega arith) bs (part memoryWidths 2) refl)
       (read-end img (byteAt 307) (byte-behind img 307)))))))))
 
   same-rest : SameLengths (soundWidths ++ memoryWidths) rest
@@ -141,7 +153,10 @@ module _ (img : List ℕ) (long : length img ≡ imageBytes) (bs : Bytes img) wh
           long-at (part soundWidths 3) img 165 4,
           (
             long-at (part soundWidths 4) img 169 24,
-            (long-at (part memoryWidths 0) img 193 88, (long-at (part memoryWidths 1) img 281 22, (long-at (part memoryWidths 2) img 303 4, tt))),
+            (
+              long-at (part memoryWidths 0) img 193 88,
+              (long-at (part memoryWidths 1) img 281 22, (long-at (part memoryWidths 2) img 303 4, tt)),
+            ),
           ),
         ),
       ),
@@ -155,7 +170,8 @@ module _ (img : List ℕ) (long : length img ≡ imageBytes) (bs : Bytes img) wh
     fields-are =
         finish-read img (byteAt 307) (joined partWidths) (joined (headParts h ++ rest))
         (rw (joined-append chipWidths (soundWidths ++ memoryWidths), joined-append (headParts h) rest)
-        (read-append img (byteAt 0) (byteAt 23) (byteAt 307) (joined chipWidths) (joined (headParts h)) (joined (soundWidths ++ memoryWidths)) (joined rest)
+        (read-append img (byteAt 0) (byteAt 23) (byteAt 307) (joined chipWidths) (joined (headParts h))
+        (joined (soundWidths ++ memoryWidths)) (joined rest)
         (rw head at (section-read img 0 23 (omega arith) bs (joined chipWidths) chip-bits)) read-rest))
         (rw long total-widths)
 

@@ -75,7 +75,8 @@ mirroring-num (suc (suc (suc (suc (suc v))))) h = absurd (let z : ⊥ = omega ar
 
 pub level-back : (x : Float) → T (fits binary32 x) → levelOk x ≡ true → whole (levelNum x) ≡ x
 level-back x f e =
-    sym (ofBits-toBits binary32 (whole (levelNum x)) (ofInt-fits binary32 (pos (levelNum x)))) ∙ ap (ofBits binary32) (level-facts x e .same)
+    sym (ofBits-toBits binary32 (whole (levelNum x)) (ofInt-fits binary32 (pos (levelNum x))))
+    ∙ ap (ofBits binary32) (level-facts x e .same)
     ∙ ofBits-toBits binary32 x f
 
 whole-back : (n : ℕ) → n ≤ 16777216 → toUnsigned 32 (whole n) ≡ n
@@ -88,7 +89,8 @@ level-num n h e =
     ∙ ap (toUnsigned 32) (level-back (whole n) (ofInt-fits binary32 (pos n)) e)
     ∙ whole-back n (omega arith)
 
-pub page-back : (n : ℕ) (p : Page) → p .0 < 2 ^ 32 → EntryIn n p → pageOf (1024 * (offsetOf p / 1024)) (yes (bit (writableOf p))) ≡ p
+pub page-back : (n : ℕ) (p : Page) → p .0 < 2 ^ 32 → EntryIn n p → pageOf (1024 * (offsetOf p / 1024)) (yes (bit (writableOf p)))
+    ≡ p
 page-back n p h e =
     let c = eqb-false (p .0 / 2 ^ 30 % 2) 1 (e .clear) in
     let s = e .pageStart in
@@ -108,13 +110,15 @@ page-back n p h e =
     zero-of (suc zero) l n = absurd (n refl)
     zero-of (suc (suc k)) l n = absurd (let z : ⊥ = omega arith in z)
 
-    go : (p .0 / 2 ^ 30 % 2 ≡ 1 → ⊥) → p .0 % 2 ^ 30 % 1024 ≡ 0 → (w : Bool) → writableOf p ≡ w → pick w (2 ^ 31) 0 + 1024 * (offsetOf p / 1024) % 2 ^ 30 ≡ p .0
+    go : (p .0 / 2 ^ 30 % 2 ≡ 1 → ⊥) → p .0 % 2 ^ 30 % 1024 ≡ 0 → (w : Bool) → writableOf p ≡ w → pick w (2 ^ 31) 0 + 1024 *
+        (offsetOf p / 1024) % 2 ^ 30 ≡ p .0
     go c s true q =
         let z = zero-of (p .0 / 2 ^ 30 % 2) (omega arith) c in
         ap (λ (x : ℕ). 2 ^ 31 + x) (start s) ∙ omega (arith, bits 0 1 z (eqb-true (p .0 / 2 ^ 31 % 2) 1 q))
     go c s false q =
         let z = zero-of (p .0 / 2 ^ 30 % 2) (omega arith) c in
-        ap (λ (x : ℕ). 0 + x) (start s) ∙ omega (arith, bits 0 0 z (zero-of (p .0 / 2 ^ 31 % 2) (omega arith) (eqb-false (p .0 / 2 ^ 31 % 2) 1 q)))
+        ap (λ (x : ℕ). 0 + x) (start s)
+        ∙ omega (arith, bits 0 0 z (zero-of (p .0 / 2 ^ 31 % 2) (omega arith) (eqb-false (p .0 / 2 ^ 31 % 2) 1 q)))
 
 page-number : (n : ℕ) (b : Bool) → n < 1024 → offsetOf (pageOf (1024 * n) b) / 1024 ≡ n
 page-number n true h = omega arith
@@ -126,19 +130,25 @@ page-flag n false h = let e : (0 + 1024 * n % 2 ^ 30) / 2 ^ 31 % 2 ≡ 0 = omega
 
 -- ---- arrays
 
-pub map-back : {A : Type 0} (f : A → ℕ) (g : ℕ → A) (d : A) (xs : List A) → ((i : ℕ) → i < length xs → g (f (getD xs i d)) ≡ getD xs i d) → map g (map f xs) ≡ xs
+pub map-back : {A : Type 0} (f : A → ℕ) (g : ℕ → A) (d : A) (xs : List A)
+    → ((i : ℕ) → i < length xs → g (f (getD xs i d)) ≡ getD xs i d) → map g (map f xs) ≡ xs
 map-back f g d [] h = refl
-map-back {A = A} f g d (x ∷ xs) h = ap₂ (λ (y : A) (ys : List A). y ∷ ys) (h 0 (omega arith)) (map-back f g d xs (λ i l. h (suc i) (omega arith)))
+map-back {A =
+    A} f g d (x ∷ xs) h = ap₂ (λ (y : A) (ys : List A). y ∷ ys) (h 0 (omega arith))
+    (map-back f g d xs (λ i l. h (suc i) (omega arith)))
 
-pub map-num : {A : Type 0} (f : A → ℕ) (g : ℕ → A) (vs : List ℕ) → ((i : ℕ) → i < length vs → f (g (getD vs i 0)) ≡ getD vs i 0) → map f (map g vs) ≡ vs
+pub map-num : {A : Type 0} (f : A → ℕ) (g : ℕ → A) (vs : List ℕ) → ((i : ℕ) → i < length vs → f (g (getD vs i 0)) ≡ getD vs i 0)
+    → map f (map g vs) ≡ vs
 map-num f g [] h = refl
 map-num f g (v ∷ vs) h = ap₂ (λ (y : ℕ) (ys : List ℕ). y ∷ ys) (h 0 (omega arith)) (map-num f g vs (λ i l. h (suc i) (omega arith)))
 
-pub pages-back : (n : ℕ) (xs : List Page) → ((i : ℕ) → getD xs i unmapped .0 < 2 ^ 32) → ((i : ℕ) → i < length xs → EntryIn n (getD xs i unmapped)) → pagesOf (each pageFields xs) ≡ xs
+pub pages-back : (n : ℕ) (xs : List Page) → ((i : ℕ) → getD xs i unmapped .0 < 2 ^ 32)
+    → ((i : ℕ) → i < length xs → EntryIn n (getD xs i unmapped)) → pagesOf (each pageFields xs) ≡ xs
 unfolding pagesOf each
 pages-back n [] h e = refl
 pages-back n (x ∷ xs) h e =
-    ap₂ (λ (y : Page) (ys : List Page). y ∷ ys) (page-back n x (h 0) (e 0 (omega arith))) (pages-back n xs (λ i. h (suc i)) (λ i l. e (suc i) (omega arith)))
+    ap₂ (λ (y : Page) (ys : List Page). y ∷ ys) (page-back n x (h 0) (e 0 (omega arith)))
+    (pages-back n xs (λ i. h (suc i)) (λ i l. e (suc i) (omega arith)))
 
 pub pages-num : (n : ℕ) (vs : List ℕ) → Fit (times n pageWidths) vs → each pageFields (pagesOf vs) ≡ vs
 unfolding pagesOf each times

@@ -60,7 +60,8 @@ keeps-cpu-read : (addr : ℕ) (h : Held) → otherGives (cpuRead addr) h ≡ oth
 unfolding otherGives checks answers cpuReadGives
 keeps-cpu-read addr h = go (firstOf (cpuChecks (h .state) (length (h .arena)) addr)) refl
   where
-    go : (q : ℕ) → firstOf (cpuChecks (h .state) (length (h .arena)) addr) ≡ q → otherGives (cpuRead addr) h ≡ otherOf paper (cpuRead addr) h
+    go : (q : ℕ) → firstOf (cpuChecks (h .state) (length (h .arena)) addr) ≡ q → otherGives (cpuRead addr) h ≡ otherOf paper
+        (cpuRead addr) h
     go zero e = rw e
     go (suc q) e = rw (e, refusal q)
 
@@ -68,7 +69,8 @@ keeps-cpu-peek : (addr : ℕ) (h : Held) → otherGives (cpuPeek addr) h ≡ oth
 unfolding otherGives checks answers cpuPeekGives
 keeps-cpu-peek addr h = go (firstOf (cpuChecks (h .state) (length (h .arena)) addr)) refl
   where
-    go : (q : ℕ) → firstOf (cpuChecks (h .state) (length (h .arena)) addr) ≡ q → otherGives (cpuPeek addr) h ≡ otherOf paper (cpuPeek addr) h
+    go : (q : ℕ) → firstOf (cpuChecks (h .state) (length (h .arena)) addr) ≡ q → otherGives (cpuPeek addr) h ≡ otherOf paper
+        (cpuPeek addr) h
     go zero e = rw e
     go (suc q) e = rw (e, refusal q)
 
@@ -76,7 +78,8 @@ keeps-cpu-write : (addr v : ℕ) (h : Held) → otherGives (cpuWrite addr v) h �
 unfolding otherGives checks answers cpuWriteGives cpuWriteArena
 keeps-cpu-write addr v h = go (firstOf (cpuChecks (h .state) (length (h .arena)) addr)) refl
   where
-    go : (q : ℕ) → firstOf (cpuChecks (h .state) (length (h .arena)) addr) ≡ q → otherGives (cpuWrite addr v) h ≡ otherOf paper (cpuWrite addr v) h
+    go : (q : ℕ) → firstOf (cpuChecks (h .state) (length (h .arena)) addr) ≡ q → otherGives (cpuWrite addr v) h ≡ otherOf paper
+        (cpuWrite addr v) h
     go zero e = rw e
     go (suc q) e = rw (e, refusal q)
 
@@ -84,7 +87,8 @@ keeps-chr-read : (addr : ℕ) (h : Held) → otherGives (chrRead addr) h ≡ oth
 unfolding otherGives checks answers chrReadGives
 keeps-chr-read addr h = go (firstOf (arenaChecks (h .state) (length (h .arena)))) refl
   where
-    go : (q : ℕ) → firstOf (arenaChecks (h .state) (length (h .arena))) ≡ q → otherGives (chrRead addr) h ≡ otherOf paper (chrRead addr) h
+    go : (q : ℕ) → firstOf (arenaChecks (h .state) (length (h .arena))) ≡ q → otherGives (chrRead addr) h ≡ otherOf paper
+        (chrRead addr) h
     go zero e = rw e
     go (suc q) e = rw (e, refusal q)
 
@@ -92,7 +96,8 @@ keeps-chr-write : (addr v : ℕ) (h : Held) → otherGives (chrWrite addr v) h �
 unfolding otherGives checks answers chrWriteArena
 keeps-chr-write addr v h = go (firstOf (arenaChecks (h .state) (length (h .arena)))) refl
   where
-    go : (q : ℕ) → firstOf (arenaChecks (h .state) (length (h .arena))) ≡ q → otherGives (chrWrite addr v) h ≡ otherOf paper (chrWrite addr v) h
+    go : (q : ℕ) → firstOf (arenaChecks (h .state) (length (h .arena))) ≡ q → otherGives (chrWrite addr v) h ≡ otherOf paper
+        (chrWrite addr v) h
     go zero e = rw e
     go (suc q) e = rw (e, refusal q)
 
@@ -100,23 +105,28 @@ keeps-fill : (src : Src) (bytes : List ℕ) (h : Held) → otherGives (fill src 
 unfolding otherGives checks answers fillArena
 keeps-fill src bytes h = go (firstOf (fillChecks (h .state) (length (h .arena)) src (length bytes))) refl
   where
-    go : (q : ℕ) → firstOf (fillChecks (h .state) (length (h .arena)) src (length bytes)) ≡ q → otherGives (fill src bytes) h ≡ otherOf paper (fill src bytes) h
+    go : (q : ℕ) → firstOf (fillChecks (h .state) (length (h .arena)) src (length bytes)) ≡ q → otherGives (fill src bytes) h
+        ≡ otherOf paper (fill src bytes) h
     go zero e = rw e
     go (suc q) e = rw (e, refusal q)
 
-keeps-region-peek : (src : Src) (offset : ℕ) (h : Held) → otherGives (regionPeek src offset) h ≡ otherOf paper (regionPeek src offset) h
+keeps-region-peek : (src : Src) (offset : ℕ) (h : Held) → otherGives (regionPeek src offset) h ≡ otherOf paper
+    (regionPeek src offset) h
 unfolding otherGives checks answers regionRead
 keeps-region-peek src offset h = go (firstOf (arenaChecks (h .state) (length (h .arena)))) refl
   where
-    go : (q : ℕ) → firstOf (arenaChecks (h .state) (length (h .arena))) ≡ q → otherGives (regionPeek src offset) h ≡ otherOf paper (regionPeek src offset) h
+    go : (q : ℕ) → firstOf (arenaChecks (h .state) (length (h .arena))) ≡ q → otherGives (regionPeek src offset) h ≡ otherOf paper
+        (regionPeek src offset) h
     go zero e = rw e
     go (suc q) e = rw (e, refusal q)
 
-keeps-region-write : (src : Src) (offset v : ℕ) (h : Held) → otherGives (regionWrite src offset v) h ≡ otherOf paper (regionWrite src offset v) h
+keeps-region-write : (src : Src) (offset v : ℕ) (h : Held) → otherGives (regionWrite src offset v) h ≡ otherOf paper
+    (regionWrite src offset v) h
 unfolding otherGives checks answers regionWriteArena
 keeps-region-write src offset v h = go (firstOf (arenaChecks (h .state) (length (h .arena)))) refl
   where
-    go : (q : ℕ) → firstOf (arenaChecks (h .state) (length (h .arena))) ≡ q → otherGives (regionWrite src offset v) h ≡ otherOf paper (regionWrite src offset v) h
+    go : (q : ℕ) → firstOf (arenaChecks (h .state) (length (h .arena))) ≡ q → otherGives (regionWrite src offset v) h
+        ≡ otherOf paper (regionWrite src offset v) h
     go zero e = rw e
     go (suc q) e = rw (e, refusal q)
 
@@ -140,7 +150,8 @@ keeps-sync : (h : Held) → otherGives syncBattery h ≡ otherOf paper syncBatte
 unfolding otherGives checks answers syncArena
 keeps-sync h = go (firstOf (batteryChecks (h .state) (length (h .arena)))) refl
   where
-    go : (q : ℕ) → firstOf (batteryChecks (h .state) (length (h .arena))) ≡ q → otherGives syncBattery h ≡ otherOf paper syncBattery h
+    go : (q : ℕ) → firstOf (batteryChecks (h .state) (length (h .arena))) ≡ q → otherGives syncBattery h
+        ≡ otherOf paper syncBattery h
     go zero e = rw e
     go (suc q) e = rw (e, refusal q)
 
@@ -148,7 +159,8 @@ keeps-restore : (h : Held) → otherGives restoreBattery h ≡ otherOf paper res
 unfolding otherGives checks answers restoreState
 keeps-restore h = go (firstOf (batteryChecks (h .state) (length (h .arena)))) refl
   where
-    go : (q : ℕ) → firstOf (batteryChecks (h .state) (length (h .arena))) ≡ q → otherGives restoreBattery h ≡ otherOf paper restoreBattery h
+    go : (q : ℕ) → firstOf (batteryChecks (h .state) (length (h .arena))) ≡ q → otherGives restoreBattery h
+        ≡ otherOf paper restoreBattery h
     go zero e = rw e
     go (suc q) e = rw (e, refusal q)
 
@@ -156,7 +168,8 @@ keeps-image : (buffer : List ℕ) (h : Held) → otherGives (writeImage buffer) 
 unfolding otherGives checks answers writeRefusal writtenImage
 keeps-image buffer h = go (firstOf (writeChecks (h .state) (length buffer))) refl
   where
-    go : (q : ℕ) → firstOf (writeChecks (h .state) (length buffer)) ≡ q → otherGives (writeImage buffer) h ≡ otherOf paper (writeImage buffer) h
+    go : (q : ℕ) → firstOf (writeChecks (h .state) (length buffer)) ≡ q → otherGives (writeImage buffer) h ≡ otherOf paper
+        (writeImage buffer) h
     go zero e = rw e
     go (suc q) e = rw e
 

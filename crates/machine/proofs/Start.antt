@@ -13,8 +13,10 @@ use Rattle.machine.specs.Start.{Loaded, loaded, zeroed}
 
 long : (l : Loaded) → length (l .arena) ≡ arenaLen (layoutOf (l .sizes))
 long l =
-    let h = accepted-none (loadChecks (l .mapper) (l .sizes) (length (l .arena))) (omega arith, (omega arith, (omega arith, (omega arith, tt)))) (l .accepted) in
-    eqb-true (length (l .arena)) (arenaLen (layoutOf (l .sizes))) (was-true (eqb (length (l .arena)) (arenaLen (layoutOf (l .sizes)))) (h .1 .1 .1 .0))
+    let h = accepted-none (loadChecks (l .mapper) (l .sizes) (length (l .arena)))
+    (omega arith, (omega arith, (omega arith, (omega arith, tt)))) (l .accepted) in
+    eqb-true (length (l .arena)) (arenaLen (layoutOf (l .sizes)))
+    (was-true (eqb (length (l .arena)) (arenaLen (layoutOf (l .sizes)))) (h .1 .1 .1 .0))
 
 pub load-starts : (l : Loaded) → loaded l ≡ zeroed l
 unfolding loadAnswer loadArena

@@ -41,7 +41,9 @@ maybe n b = either (mayChange n) (withBoard n b) n (part n) refl refl
 
 work-ram : (n : Namco163) → part (writeWorkRam n) ≡ part n
 unfolding writeWorkRam part
-work-ram n = either (is340 (n .board)) (maybeSetBoard (withWritten n true) Unknown) (withWritten n true) (part n) (maybe (withWritten n true) Unknown) refl
+work-ram n =
+    either (is340 (n .board)) (maybeSetBoard (withWritten n true) Unknown) (withWritten n true) (part n)
+    (maybe (withWritten n true) Unknown) refl
 
 slot : (n : Namco163) (a v : ℕ) → part (writeSlot n a v) ≡ part n
 unfolding writeSlot part
@@ -49,7 +51,8 @@ slot n a v = refl
 
 nametable : (n : Namco163) (a v : ℕ) → part (writeNametable n a v) ≡ part n
 unfolding writeNametable part
-nametable n a v = either (is175 (n .board)) _ _ (part n) refl (either (is163 (n .board)) (writeSlot n a v) n (part n) (slot n a v) refl)
+nametable n a v =
+    either (is175 (n .board)) _ _ (part n) refl (either (is163 (n .board)) (writeSlot n a v) n (part n) (slot n a v) refl)
 
 c000 : (n : Namco163) (a v : ℕ) → part (writeC000 n a v) ≡ part n
 unfolding writeC000
@@ -155,5 +158,7 @@ pub untouched : (calls : List (Call Float Other)) → NoneTouches calls → Unto
 unfolding part
 untouched [] t = tt
 untouched (run n lent ∷ calls) t = untouched calls t
-untouched (other a ∷ calls) t =
-    (λ h. (ap (λ (p : ℕ × Bool). p .0) (leaves a h (t .0)), ap (λ (p : ℕ × Bool). p .1) (leaves a h (t .0))), untouched calls (t .1))
+untouched (other a ∷ calls) t = (
+  λ h. (ap (λ (p : ℕ × Bool). p .0) (leaves a h (t .0)), ap (λ (p : ℕ × Bool). p .1) (leaves a h (t .0))),
+  untouched calls (t .1),
+)

@@ -67,11 +67,13 @@ record Window : Type 0 where
 
 prg : Window → Bool
 unfolding mapPrg newMemory unmappedMemory setMirroring mirrorPages nametablePage mapPages showPages eachPage regionPage windowBase banksOf layoutOf regionOf firstPage pagesBefore arenaOrder same
-prg w = same (take 8 (drop (w .addr / 1024) (mapPrg (newMemory (w .cart)) (w .addr) 8192 (w .bank) (w .src) .«prg_pages»))) (w .shows)
+prg w =
+    same (take 8 (drop (w .addr / 1024) (mapPrg (newMemory (w .cart)) (w .addr) 8192 (w .bank) (w .src) .«prg_pages»))) (w .shows)
 
 chr : Window → Bool
 unfolding mapChr newMemory unmappedMemory setMirroring mirrorPages nametablePage mapPages showPages eachPage regionPage windowBase banksOf layoutOf regionOf firstPage pagesBefore arenaOrder same
-chr w = same (take 1 (drop (w .addr / 1024) (mapChr (newMemory (w .cart)) (w .addr) 1024 (w .bank) (w .src) .«chr_pages»))) (w .shows)
+chr w =
+    same (take 1 (drop (w .addr / 1024) (mapChr (newMemory (w .cart)) (w .addr) 1024 (w .bank) (w .src) .«chr_pages»))) (w .shows)
 
 -- 01, case 1: E000 holds page 25, and so does 8000 at bank 3F
 casesPrg : List Window
@@ -116,7 +118,9 @@ roms =
 
 romRight : Rom → Bool
 unfolding prg cart every
-romRight r = every (λ n. at n 0x8000 (pos 1) (r .bank1) && at n 0xA000 (pos 2) (r .bank2) && at n 0xC000 (pos 0x3F) (r .bank3F) && at n 0xE000 (negsuc 0) (r .last)) (r .pages)
+romRight r =
+    every (λ n. at n 0x8000 (pos 1) (r .bank1) && at n 0xA000 (pos 2) (r .bank2) && at n 0xC000 (pos 0x3F)
+    (r .bank3F) && at n 0xE000 (negsuc 0) (r .last)) (r .pages)
   where
     at : ℕ → ℕ → ℤ → List Page → Bool
     at n addr b l = prg (record { cart = cart (1024 * n) 8192 2048; addr = addr; bank = b; src = PrgRom; shows = l })
@@ -137,7 +141,9 @@ rams =
 
 ramRight : Ram → Bool
 unfolding prg cart every
-ramRight r = every (λ n. prg (record { cart = cart 32768 (1024 * n) 2048; addr = 0x6000; bank = pos 0; src = PrgRam; shows = r .shows })) (r .pages)
+ramRight r =
+    every (λ n. prg (record { cart = cart 32768 (1024 * n) 2048; addr = 0x6000; bank = pos 0; src = PrgRam; shows = r .shows }))
+    (r .pages)
 
 -- ---- nametables: the pages behind CIRAM's first that the four show, at $2000 and again at $3000
 

@@ -22,7 +22,11 @@ pub agree-all : (n : ℕ) (a : Audio) → agree (registerReads n a) a ≡ n
 unfolding agree registerReads
 agree-all zero a = refl
 agree-all (suc n) a =
-    omega (arith, agree-all n (readOf a 0x4800 .audio), ap {B = ℕ} (λ b. cond b 1 0) (eq-eqb (readOf a 0x4800 .byte) (readOf a 0x4800 .byte) refl))
+    omega (
+      arith,
+      agree-all n (readOf a 0x4800 .audio),
+      ap {B = ℕ} (λ b. cond b 1 0) (eq-eqb (readOf a 0x4800 .byte) (readOf a 0x4800 .byte) refl),
+    )
 
 -- and so do n reads of the port
 pub agree-block : (n : ℕ) (a : Audio) (l : List ℕ) → a .addr < 128 → l ≡ reads n (portOf a) → agree l a ≡ n
@@ -30,7 +34,8 @@ agree-block n a l r e = ap (λ (k : List ℕ). agree k a) (e ∙ block-as-regist
 
 -- one more byte is counted; s is the call's answer, and e whether its byte is the next one
 pub agree-more : (l : List ℕ) (a : Audio) (i same e all : ℕ) (s : SoundRead) → i < length l → s ≡ readOf a 0x4800
-    → e ≡ cond (eqb (s .byte) (getD l i 0)) 1 0 → same + agree (drop i l) a ≡ all → same + e + agree (drop (i + 1) l) (s .audio) ≡ all
+    → e ≡ cond (eqb (s .byte) (getD l i 0)) 1 0 → same + agree (drop i l) a ≡ all → same + e + agree (drop (i + 1) l) (s .audio)
+    ≡ all
 unfolding agree
 agree-more l a i same e all s h r q t =
     let u : agree (drop i l) a ≡ e + agree (drop (i + 1) l) (s .audio) = rw (drop-cons l i 0 h, add-one i, q, r) refl in

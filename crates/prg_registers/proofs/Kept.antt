@@ -12,4 +12,5 @@ use Rattle.prg_registers.specs.Banks.{detectE000, bit6, bit7}
 pub detect-audio : (n : Namco163) (v : ℕ) → detectE000 n v .audio ≡ n .audio
 unfolding detectE000
 detect-audio n v =
-    cond-same (λ (m : Namco163). m .audio) (bit7 v || (bit6 v && not (is163 (n .board)))) (maybeSetBoard n Namco340) n (maybe-audio n Namco340)
+    cond-same (λ (m : Namco163). m .audio) (bit7 v || (bit6 v && not (is163 (n .board)))) (maybeSetBoard n Namco340) n
+    (maybe-audio n Namco340)

@@ -45,7 +45,8 @@ ranged-slot : (m : Memory) (slot bank : ℕ) (ciram : Bool) → Ranged m → Ran
 unfolding mapSlot mapChr
 ranged-slot m slot bank ciram q =
     let low = ranged-map-chr m q (slot * 1024) 1024 (pos bank) (slotSrc ciram) refl (slot-pages _ _ ciram) in
-    ranged-cond (ltb slot 8) _ _ low (ranged-map-chr _ low (slot * 1024 + 0x1000) 1024 (pos bank) (slotSrc ciram) refl (slot-pages _ _ ciram))
+    ranged-cond (ltb slot 8) _ _ low
+    (ranged-map-chr _ low (slot * 1024 + 0x1000) 1024 (pos bank) (slotSrc ciram) refl (slot-pages _ _ ciram))
 
 ranged-slots : (n : Namco163) (k : ℕ) (m : Memory) → Ranged m → Ranged (mapSlots n k m)
 unfolding mapSlots
@@ -55,7 +56,8 @@ ranged-slots n (suc k) m q = ranged-slot (mapSlots n k m) k _ _ (ranged-slots n 
 ranged-table : (n : Namco163) (m : Memory) → Ranged m → Ranged (mapChrTable n m)
 unfolding mapChrTable
 ranged-table n m q =
-    ranged-cond (is163 (n .board)) _ _ (ranged-slots n 12 m q) (ranged-mirroring (mapSlots n 8 m) (ranged-slots n 8 m q) (n .mirroring))
+    ranged-cond (is163 (n .board)) _ _ (ranged-slots n 12 m q)
+    (ranged-mirroring (mapSlots n 8 m) (ranged-slots n 8 m q) (n .mirroring))
 
 -- a PRG-ROM bank in an 8 KiB window
 ranged-window : (m : Memory) (addr : ℕ) (b : ℤ) → Ranged m → Ranged (mapPrg m addr 8192 b PrgRom)
@@ -182,7 +184,8 @@ double x k h =
     let high : x * 2 / 2 ≡ x = omega arith in
     rw pow-suc (mod-mul (x * 2) {m = 2 ^ k} {c = 2} (pow-pos k) (omega arith) ∙ rw (low, high, h))
 
-pub mask-multiple : (k : ℕ) (old new : List Page) → ((i : ℕ) → i < k → getD new i unmapped ≡ getD old i unmapped) → changed old new % 2 ^ k ≡ 0
+pub mask-multiple : (k : ℕ) (old new : List Page) → ((i : ℕ) → i < k → getD new i unmapped ≡ getD old i unmapped)
+    → changed old new % 2 ^ k ≡ 0
 unfolding changed
 mask-multiple zero old new h = omega arith
 mask-multiple (suc k) [] new h = zero-mod (2 ^ suc k)

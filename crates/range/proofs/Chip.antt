@@ -83,16 +83,19 @@ bank-keeps n k v =
 pub maybe-keeps : (n : Namco163) (b : Board) → Keeps n (maybeSetBoard n b)
 unfolding maybeSetBoard
 maybe-keeps n b =
-    keeps-cond (mayChange n) n (withBoard n b) n (record { mapper = refl; banks = λ i h. h; three = refl; sound = λ r. r; typed = λ t. t }) (keeps-self n)
+    keeps-cond (mayChange n) n (withBoard n b) n
+    (record { mapper = refl; banks = λ i h. h; three = refl; sound = λ r. r; typed = λ t. t }) (keeps-self n)
 
 pub detect-keeps : (n : Namco163) (v : ℕ) → Keeps n (detectE000 n v)
 unfolding detectE000
-detect-keeps n v = keeps-cond (bit7 v || (bit6 v && not (is163 (n .board)))) n (maybeSetBoard n Namco340) n (maybe-keeps n Namco340) (keeps-self n)
+detect-keeps n v =
+    keeps-cond (bit7 v || (bit6 v && not (is163 (n .board)))) n (maybeSetBoard n Namco340) n (maybe-keeps n Namco340) (keeps-self n)
 
 -- ---- writes, range by range
 
 -- steps that change no field of these
-keeps-fields : (n m : Namco163) → m .«mapper_num» ≡ n .«mapper_num» → m .«prg_banks» ≡ n .«prg_banks» → m .audio ≡ n .audio → Keeps n m
+keeps-fields : (n m : Namco163) → m .«mapper_num» ≡ n .«mapper_num» → m .«prg_banks» ≡ n .«prg_banks» → m .audio ≡ n .audio
+    → Keeps n m
 keeps-fields n m p b a =
     record { mapper = p; banks = λ i h. rw b h; three = rw b; sound = λ r. rw a r; typed = λ t. rw a t }
 
@@ -127,7 +130,9 @@ nametable-keeps n a v =
 
 pub c000-keeps : (n : Namco163) (a v : ℕ) → Keeps n (writeC000 n a v)
 unfolding writeC000
-c000-keeps n a v = keeps-both (keeps-cond (is163 (n .board)) n n (maybeSetBoard n Namco175) (keeps-self n) (maybe-keeps n Namco175)) (nametable-keeps _ a v)
+c000-keeps n a v =
+    keeps-both (keeps-cond (is163 (n .board)) n n (maybeSetBoard n Namco175) (keeps-self n) (maybe-keeps n Namco175))
+    (nametable-keeps _ a v)
 
 pub c800-keeps : (n : Namco163) (a v : ℕ) → Keeps n (writeC800 n a v)
 unfolding writeC800
@@ -158,7 +163,15 @@ unfolding writeF800
 f800-keeps n a v h =
     let m = maybeSetBoard n Is163 in
     keeps-cond (is163 (m .board)) n _ m
-    (keeps-both (maybe-keeps n Is163) (record { mapper = refl; banks = λ i h. h; three = refl; sound = written-range (m .audio) a v; typed = written-typed (m .audio) a v h }))
+    (keeps-both (maybe-keeps n Is163)
+    (record {
+      mapper = refl;
+      banks = λ i h. h;
+      three = refl;
+      sound = written-range (m .audio) a v;
+      typed = written-typed
+          (m .audio) a v h;
+    }))
     (maybe-keeps n Is163)
 
 -- the write whole, at every address
@@ -206,4 +219,5 @@ pub record Fresh (mapper : ℕ) (n : Namco163) : Type 0 where
 
 pub load-fresh : (mapper sub flags : ℕ) (known : Bool) → Fresh mapper (chipAtLoad mapper sub flags known)
 unfolding chipAtLoad
-load-fresh mapper sub flags known = record { number = refl; banks = no-banks 3; three = refl; sound = fresh-range; typed = fresh-typed }
+load-fresh mapper sub flags known =
+    record { number = refl; banks = no-banks 3; three = refl; sound = fresh-range; typed = fresh-typed }

@@ -25,7 +25,8 @@ fails : (b : Bool) → b ≡ false → not b ≡ true
 fails b h = rw h
 
 -- "2. A state or image field is out of range.": in every call that takes a state
-pub refused-2 : (s : State) (rest : List Check) → Decided (stateCheck s ∷ rest) → (firstOf (stateCheck s ∷ rest) ≡ 2) ↔ (inRange s ≡ false)
+pub refused-2 : (s : State) (rest : List Check) → Decided (stateCheck s ∷ rest) → (firstOf (stateCheck s ∷ rest) ≡ 2) ↔
+    (inRange s ≡ false)
 refused-2 s rest d =
     let r = d .refused [] rest (stateCheck s) refl in
     ((λ e. was-false (inRange s) (r .0 e .1)), (λ h. r .1 (tt, rw h)))
@@ -39,16 +40,20 @@ refused-3 s kind =
     )
 
 -- "4. A load names a mapper other than 19 or 210."
-pub refused-4 : (mapper : ℕ) (sizes : MemoryLayout) (len : ℕ) → (firstOf (loadChecks mapper sizes len) ≡ 4) ↔ (mapperOk mapper ≡ false)
+pub refused-4 : (mapper : ℕ) (sizes : MemoryLayout) (len : ℕ) → (firstOf (loadChecks mapper sizes len) ≡ 4) ↔
+    (mapperOk mapper ≡ false)
 refused-4 mapper sizes len =
-    let r = load-decided mapper sizes len .refused [] (sizesCheck sizes ∷ reserveCheck mapper sizes ∷ arenaCheck (arenaLen (layoutOf sizes)) len ∷ []) (mapperCheck mapper) refl in
+    let r = load-decided mapper sizes len .refused []
+    (sizesCheck sizes ∷ reserveCheck mapper sizes ∷ arenaCheck (arenaLen (layoutOf sizes)) len ∷ [])
+    (mapperCheck mapper) refl in
     ((λ e. was-false (mapperOk mapper) (r .0 e .1)), (λ h. r .1 (tt, fails (mapperOk mapper) h)))
 
 -- "5. A layout size is above its limit."
 pub refused-5 : (mapper : ℕ) (sizes : MemoryLayout) (len : ℕ)
     → (firstOf (loadChecks mapper sizes len) ≡ 5) ↔ ((mapperOk mapper ≡ true) × (withinLimits sizes ≡ false))
 refused-5 mapper sizes len =
-    let r = load-decided mapper sizes len .refused (mapperCheck mapper ∷ []) (reserveCheck mapper sizes ∷ arenaCheck (arenaLen (layoutOf sizes)) len ∷ []) (sizesCheck sizes) refl in (
+    let r = load-decided mapper sizes len .refused (mapperCheck mapper ∷ [])
+    (reserveCheck mapper sizes ∷ arenaCheck (arenaLen (layoutOf sizes)) len ∷ []) (sizesCheck sizes) refl in (
       (λ e. let h = r .0 e in (was-true (mapperOk mapper) (h .0 .0), was-false (withinLimits sizes) (h .1))),
       (λ h. r .1 ((passes (mapperOk mapper) (h .0), tt), rw (h .1))),
     )
@@ -57,18 +62,27 @@ refused-5 mapper sizes len =
 pub refused-6 : (mapper : ℕ) (sizes : MemoryLayout) (len : ℕ)
     → (firstOf (loadChecks mapper sizes len) ≡ 6) ↔ ((withinLimits sizes ≡ true) × ((mapper ≡ 19) × (sizes .«battery_ext» ≡ 0)))
 refused-6 mapper sizes len =
-    let r = load-decided mapper sizes len .refused (mapperCheck mapper ∷ sizesCheck sizes ∷ []) (arenaCheck (arenaLen (layoutOf sizes)) len ∷ []) (reserveCheck mapper sizes) refl in (
+    let r = load-decided mapper sizes len .refused (mapperCheck mapper ∷ sizesCheck sizes ∷ [])
+    (arenaCheck (arenaLen (layoutOf sizes)) len ∷ []) (reserveCheck mapper sizes) refl in (
       (λ e.
           let h = r .0 e in (
             was-true (withinLimits sizes) (h .0 .1 .0),
-            (eqb-true mapper 19 (and-left (eqb mapper 19) _ (h .1)), eqb-true (sizes .«battery_ext») 0 (and-right (eqb mapper 19) _ (h .1))),
+            (
+              eqb-true mapper 19 (and-left (eqb mapper 19) _ (h .1)),
+              eqb-true (sizes .«battery_ext») 0 (and-right (eqb mapper 19) _ (h .1)),
+            ),
           )),
-      (λ h. r .1 ((rw (h .1 .0), (rw (h .0), tt)), both (eqb mapper 19) _ (eq-eqb mapper 19 (h .1 .0)) (eq-eqb (sizes .«battery_ext») 0 (h .1 .1)))),
+      (λ h. r .1 (
+        (rw (h .1 .0), (rw (h .0), tt)),
+        both (eqb mapper 19) _ (eq-eqb mapper 19 (h .1 .0)) (eq-eqb (sizes .«battery_ext») 0 (h .1 .1)),
+      )),
     )
 
 -- "7. The arena's length is not the layout's.": in every call that takes state and arena
-pub refused-7 : (s : State) (len : ℕ) (rest : List Check) → Decided (stateCheck s ∷ arenaCheck (arenaLen (s .memory .layout)) len ∷ rest)
-    → (firstOf (stateCheck s ∷ arenaCheck (arenaLen (s .memory .layout)) len ∷ rest) ≡ 7) ↔ ((inRange s ≡ true) × (len ≡ arenaLen (s .memory .layout) → ⊥))
+pub refused-7 : (s : State) (len : ℕ) (rest : List Check) → Decided
+    (stateCheck s ∷ arenaCheck (arenaLen (s .memory .layout)) len ∷ rest)
+    → (firstOf (stateCheck s ∷ arenaCheck (arenaLen (s .memory .layout)) len ∷ rest) ≡ 7) ↔
+    ((inRange s ≡ true) × (len ≡ arenaLen (s .memory .layout) → ⊥))
 refused-7 s len rest d =
     let long = arenaLen (s .memory .layout) in
     let r = d .refused (stateCheck s ∷ []) rest (arenaCheck long len) refl in (
@@ -79,13 +93,17 @@ refused-7 s len rest d =
 -- and in a load
 pub load-refused-7 : (mapper : ℕ) (sizes : MemoryLayout) (len : ℕ)
     → (firstOf (loadChecks mapper sizes len) ≡ 7)
-    ↔ (((mapperOk mapper ≡ true) × ((withinLimits sizes ≡ true) × (eqb mapper 19 && eqb (sizes .«battery_ext») 0 ≡ false))) × (len ≡ arenaLen (layoutOf sizes) → ⊥))
+    ↔ (((mapperOk mapper ≡ true) × ((withinLimits sizes ≡ true) × (eqb mapper 19 && eqb (sizes .«battery_ext») 0 ≡ false))) ×
+    (len ≡ arenaLen (layoutOf sizes) → ⊥))
 load-refused-7 mapper sizes len =
     let long = arenaLen (layoutOf sizes) in
-    let r = load-decided mapper sizes len .refused (mapperCheck mapper ∷ sizesCheck sizes ∷ reserveCheck mapper sizes ∷ []) [] (arenaCheck long len) refl in (
+    let r = load-decided mapper sizes len .refused (mapperCheck mapper ∷ sizesCheck sizes ∷ reserveCheck mapper sizes ∷ []) []
+    (arenaCheck long len) refl in (
       (λ e.
-          let h = r .0 e in
-          ((was-true (mapperOk mapper) (h .0 .0), (was-true (withinLimits sizes) (h .0 .1 .0), h .0 .1 .1 .0)), eqb-false len long (was-false (eqb len long) (h .1)))),
+          let h = r .0 e in (
+            (was-true (mapperOk mapper) (h .0 .0), (was-true (withinLimits sizes) (h .0 .1 .0), h .0 .1 .1 .0)),
+            eqb-false len long (was-false (eqb len long) (h .1)),
+          )),
       (λ h. r .1 ((passes (mapperOk mapper) (h .0 .0), (rw (h .0 .1 .0), (h .0 .1 .1, tt))), rw (ne-eqb len long (h .1)))),
     )
 
@@ -99,7 +117,10 @@ module _ (s : State) (len : ℕ) where
   refused-8 addr =
       let long = arenaLen (s .memory .layout) in
       let r = cpu-decided s len addr .refused (arenaChecks s len) [] (addressCheck addr) refl in (
-        (λ e. let h = r .0 e in ((was-true (inRange s) (h .0 .0), eqb-true len long (was-true (eqb len long) (h .0 .1 .0))), ltb-true addr 0x4800 (h .1))),
+        (λ e. let h = r .0 e in (
+          (was-true (inRange s) (h .0 .0), eqb-true len long (was-true (eqb len long) (h .0 .1 .0))),
+          ltb-true addr 0x4800 (h .1),
+        )),
         (λ h. r .1 ((rw (h .0 .0), (rw (eq-eqb len long (h .0 .1)), tt)), lt-ltb addr 0x4800 (h .1))),
       )
 
@@ -109,7 +130,10 @@ module _ (s : State) (len : ℕ) where
       let long = arenaLen (s .memory .layout) in
       let region = regionIn (s .memory) src .len in
       let r = fill-decided s len src n .refused (arenaChecks s len) [] (fillCheck s src n) refl in (
-        (λ e. let h = r .0 e in ((was-true (inRange s) (h .0 .0), eqb-true len long (was-true (eqb len long) (h .0 .1 .0))), ltb-true region n (h .1))),
+        (λ e. let h = r .0 e in (
+          (was-true (inRange s) (h .0 .0), eqb-true len long (was-true (eqb len long) (h .0 .1 .0))),
+          ltb-true region n (h .1),
+        )),
         (λ h. r .1 ((rw (h .0 .0), (rw (eq-eqb len long (h .0 .1)), tt)), lt-ltb region n (h .1))),
       )
 
@@ -119,6 +143,9 @@ module _ (s : State) (len : ℕ) where
       let long = arenaLen (s .memory .layout) in
       let used = s .memory .«battery_ext_len» in
       let r = battery-decided s len .refused (arenaChecks s len) [] (batteryCheck s) refl in (
-        (λ e. let h = r .0 e in ((was-true (inRange s) (h .0 .0), eqb-true len long (was-true (eqb len long) (h .0 .1 .0))), eqb-true used 0 (h .1))),
+        (λ e. let h = r .0 e in (
+          (was-true (inRange s) (h .0 .0), eqb-true len long (was-true (eqb len long) (h .0 .1 .0))),
+          eqb-true used 0 (h .1),
+        )),
         (λ h. r .1 ((rw (h .0 .0), (rw (eq-eqb len long (h .0 .1)), tt)), eq-eqb used 0 (h .1))),
       )

@@ -40,7 +40,8 @@ unfolding firstOf
 accepted-none [] n e = tt
 accepted-none (c ∷ cs) n e = go (c .holds) refl (accepted-none cs (n .1)) e
   where
-    go : (t : Bool) → c .holds ≡ t → (firstOf cs ≡ 0 → NoneHolds cs) → cond t (c .number) (firstOf cs) ≡ 0 → (c .holds ≡ false) × NoneHolds cs
+    go : (t : Bool) → c .holds ≡ t → (firstOf cs ≡ 0 → NoneHolds cs) → cond t (c .number) (firstOf cs) ≡ 0 → (c .holds ≡ false)
+        × NoneHolds cs
     go true q ih e = absurd (omega (arith, n .0, e))
     go false q ih e = (q, ih e)
 
@@ -50,7 +51,8 @@ none-accepted [] h = refl
 none-accepted (c ∷ cs) h = rw (h .0) (none-accepted cs (h .1))
 
 -- a condition that holds, where none before it does, gives its number
-pub refused-first : (before after : List Check) (c : Check) → NoneHolds before → c .holds ≡ true → firstOf (before ++ c ∷ after) ≡ c .number
+pub refused-first : (before after : List Check) (c : Check) → NoneHolds before → c .holds ≡ true → firstOf (before ++ c ∷ after)
+    ≡ c .number
 unfolding firstOf
 refused-first [] after c h e = rw e
 refused-first (b ∷ before) after c h e = rw (h .0) (refused-first before after c (h .1) e)
@@ -121,7 +123,8 @@ port-good s e =
     let a = n .audio in
     let c = and-left (chipOk n) _ e in
     let sound = and-right (every 3 (bankTest (n .«prg_banks»))) _ (and-right (mapperOk (n .«mapper_num»)) _ c) in
-    let addr = and-left (leb (a .addr) 127) _ (and-right (leb (a .«current_channel») 7) _ (and-right (leb (a .«update_counter») 14) _ sound)) in
+    let addr = and-left (leb (a .addr) 127) _
+    (and-right (leb (a .«current_channel») 7) _ (and-right (leb (a .«update_counter») 14) _ sound)) in
     omega (arith, leb-true (a .addr) 127 addr)
 
 pub reset-good : (s : State) (kind : ℕ) → firstOf (resetChecks s kind) ≡ 0 → inRange s ≡ true

@@ -40,7 +40,8 @@ add-at f (fin false m e) nan a b p q = absurd q
 add-at f (fin false m e) (inf t) a b p q = absurd q
 add-at f (fin false m e) (fin true n d) a b p q = absurd (true≢false (q .0))
 add-at f (fin false m e) (fin false n d) a b p q =
-    round-same f false (m * up e * down d + n * up d * down e) (down e * down d) (a + b) 1 (mul-pos (down-pos e) (down-pos d)) (omega arith)
+    round-same f false (m * up e * down d + n * up d * down e) (down e * down d) (a + b) 1 (mul-pos (down-pos e) (down-pos d))
+    (omega arith)
     (cross-add (m * up e) (n * up d) a b (down e) (down d) (p .1) (q .1))
 
 cross-sub : (X Y a b de dd : ℕ) → X * 1 ≡ a * de → Y * 1 ≡ b * dd → (X * dd - Y * de) * 1 ≡ (a - b) * (de * dd)
@@ -57,7 +58,8 @@ cross-le X Y a b de dd p q h =
     let y : Y ≡ b * dd = sym (mul-one Y) ∙ q in
     rw (x, y, mul-right-comm b dd de) (mul-le-mul-right dd (mul-le-mul-right de h))
 
-sub-at : (f : Format) (x y : Float) (a b : ℕ) → b ≤ a → HasValue x false a 1 → HasValue y false b 1 → sub f x y ≡ round f false (a - b) 1
+sub-at : (f : Format) (x y : Float) (a b : ℕ) → b ≤ a → HasValue x false a 1 → HasValue y false b 1 → sub f x y ≡ round f false
+    (a - b) 1
 unfolding sub neg add sum
 sub-at f nan y a b h p q = absurd p
 sub-at f (inf s) y a b h p q = absurd p
@@ -67,7 +69,8 @@ sub-at f (fin false m e) (inf t) a b h p q = absurd q
 sub-at f (fin false m e) (fin true n d) a b h p q = absurd (true≢false (q .0))
 sub-at f (fin false m e) (fin false n d) a b h p q =
     rw (le-ltb (m * up e * down d) (n * up d * down e) (cross-le (m * up e) (n * up d) a b (down e) (down d) (p .1) (q .1) h))
-    (round-same f false (m * up e * down d - n * up d * down e) (down e * down d) (a - b) 1 (mul-pos (down-pos e) (down-pos d)) (omega arith)
+    (round-same f false (m * up e * down d - n * up d * down e) (down e * down d) (a - b) 1 (mul-pos (down-pos e) (down-pos d))
+    (omega arith)
     (cross-sub (m * up e) (n * up d) a b (down e) (down d) (p .1) (q .1)))
 
 cross-div : (X Y a b de dd : ℕ) → X * 1 ≡ a * de → Y * 1 ≡ b * dd → X * dd * b ≡ a * (Y * de)
@@ -96,7 +99,8 @@ cross-mul X Y a b c de dd p q =
     let y : Y ≡ b * dd = sym (mul-one Y) ∙ q in
     mul-right-comm X Y c ∙ ap (λ (z : ℕ). z * Y) p ∙ rw y (simp (mul-assoc, mul-left-comm))
 
-mul-at : (f : Format) (x y : Float) (a c b : ℕ) → 0 < c → HasValue x false a c → HasValue y false b 1 → mul f x y ≡ round f false (a * b) c
+mul-at : (f : Format) (x y : Float) (a c b : ℕ) → 0 < c → HasValue x false a c → HasValue y false b 1 → mul f x y ≡ round f false
+    (a * b) c
 unfolding mul
 mul-at f nan y a c b C p q = absurd p
 mul-at f (inf s) y a c b C p q = absurd p
@@ -109,17 +113,20 @@ mul-at f (fin false m e) (fin false n d) a c b C p q =
     (cross-mul (m * up e) (n * up d) a b c (down e) (down d) (p .1) (q .1))
 
 -- negative zero is no other start of a sum than zero
-minus-zero-at : (f : Format) (x : Float) (a : ℕ) → HasValue x false a 1 → add f (fin true 0 (pos 0)) x ≡ add f (fin false 0 (pos 0)) x
+minus-zero-at : (f : Format) (x : Float) (a : ℕ) → HasValue x false a 1 → add f (fin true 0 (pos 0)) x ≡ add f
+    (fin false 0 (pos 0)) x
 unfolding add sum
 minus-zero-at f nan a p = absurd p
 minus-zero-at f (inf s) a p = absurd p
 minus-zero-at f (fin true m e) a p = absurd (true≢false (p .0))
 minus-zero-at f (fin false m e) a p = go (0 * down e) (m * up e * 1) (zero-mul (down e))
   where
-    go : (z b : ℕ) → z ≡ 0 → cond (ltb z b) (round f false (b - z) (1 * down e)) (round f (true && ltb b z) (z - b) (1 * down e)) ≡ round f false (z + b) (1 * down e)
+    go : (z b : ℕ) → z ≡ 0 → cond (ltb z b) (round f false (b - z) (1 * down e)) (round f (true && ltb b z) (z - b) (1 * down e))
+        ≡ round f false (z + b) (1 * down e)
     go z b h = by (ltb z b) refl
       where
-        by : (t : Bool) → ltb z b ≡ t → cond t (round f false (b - z) (1 * down e)) (round f (true && ltb b z) (z - b) (1 * down e)) ≡ round f false (z + b) (1 * down e)
+        by : (t : Bool) → ltb z b ≡ t → cond t (round f false (b - z) (1 * down e)) (round f (true && ltb b z) (z - b) (1 * down e))
+            ≡ round f false (z + b) (1 * down e)
         by true t = ap (λ (x : ℕ). round f false x (1 * down e)) (omega arith)
         by false t =
             let l = ltb-false z b t in
@@ -145,7 +152,8 @@ minus-zero a p = minus-zero-at binary32 (whole a) a (whole-value a p)
 pub mul-back : (x : Float) (a c : ℕ) → 0 < c → c ≤ 16777216 → HasValue x false a c → mul binary32 x (whole c) ≡ whole a
 unfolding ofInt
 mul-back x a c C b p =
-    mul-at binary32 x (whole c) a c c C p (whole-value c b) ∙ round-same binary32 false (a * c) c a 1 C (omega arith) (mul-one (a * c))
+    mul-at binary32 x (whole c) a c c C p (whole-value c b)
+    ∙ round-same binary32 false (a * c) c a 1 C (omega arith) (mul-one (a * c))
 
 pub div-whole : (a b : ℕ) → 0 < b → a ≤ 16777216 → b ≤ 16777216 → div binary32 (whole a) (whole b) ≡ round binary32 false a b
 div-whole a b B p q = div-at binary32 (whole a) (whole b) a b B (whole-value a p) (whole-value b q)
@@ -207,7 +215,8 @@ code-mono : (n m : ℕ) → n ≤ m → code n ≤ code m
 code-mono n m h =
     ⊎-elim
     (λ (e : size n - 24 ≡ size m - 24).
-    let d : n / 2 ^ (size m - 24) ≤ m / 2 ^ (size m - 24) = div-mono n (2 ^ (size m - 24)) m (2 ^ (size m - 24)) (pow-pos _) (pow-pos _) (mul-le-mul-right (2 ^ (size m - 24)) h) in
+    let d : n / 2 ^ (size m - 24) ≤ m / 2 ^ (size m - 24) = div-mono n (2 ^ (size m - 24)) m (2 ^ (size m - 24)) (pow-pos _)
+    (pow-pos _) (mul-le-mul-right (2 ^ (size m - 24)) h) in
     rw e (omega arith))
     (λ (l : size n - 24 < size m - 24).
     omega (arith, kept-lt 24 n, lead m (size m - 24) refl (omega arith)))
@@ -216,7 +225,8 @@ code-mono n m h =
 -- a float of 0..=3825 has bits of at most 456F1000
 most-mul : (m e d : ℕ) → m * 1 ≤ 3825 * d → m * e ≤ d * (3825 * e)
 most-mul m e d h =
-    subst (λ (x : ℕ). m * e ≤ x) (mul-right-comm 3825 d e ∙ mul-comm (3825 * e) d) (mul-le-mul-right e (subst (λ (x : ℕ). x ≤ 3825 * d) (mul-one m) h))
+    subst (λ (x : ℕ). m * e ≤ x) (mul-right-comm 3825 d e ∙ mul-comm (3825 * e) d)
+    (mul-le-mul-right e (subst (λ (x : ℕ). x ≤ 3825 * d) (mul-one m) h))
 
 code-most : code (3825 * 2 ^ 149) ≡ 0x456F1000
 unfolding size span climb
@@ -251,26 +261,36 @@ value-small nan a c C v h = absurd v
 value-small (inf s) a c C v h = absurd v
 value-small (fin true m e) a c C v h = absurd (true≢false (v .0))
 value-small (fin false m e) a c C v h =
-    record { mantissa = m; exponent = e; is = refl; most = le-of-values (fin false m e) (whole 3825) a c 3825 1 C (omega arith) v (whole-value 3825 (omega arith)) h }
+    record {
+      mantissa = m;
+      exponent = e;
+      is = refl;
+      most = le-of-values (fin false m e) (whole 3825) a c 3825 1 C (omega arith) v
+          (whole-value 3825 (omega arith)) h;
+    }
 
 digits-small : (x t : ℕ) → x * 8388608 + t ≤ 1156517888 → t < 8388608 → (8388608 + t) * 2 ^ x * 1 ≤ 3825 * 2 ^ 149
 digits-small x t h l =
     subst (λ (y : ℕ). y ≤ 3825 * 2 ^ 149) (sym (mul-one _))
     (⊎-elim
     (λ (e : x ≡ 137). rw e (le-trans (mul-le-mul-right {n = 15667200} (2 ^ 137) (omega arith)) (lit≤ tt)))
-    (λ (g : x < 137). le-trans (mul-le-mul {n₂ = 16777216} {m₂ = 2 ^ 136} (omega arith) (pow-mono {i = x} {j = 136} (omega arith))) (lit≤ tt))
+    (λ (g : x < 137). le-trans (mul-le-mul {n₂ = 16777216} {m₂ = 2 ^ 136} (omega arith) (pow-mono {i = x} {j = 136} (omega arith)))
+    (lit≤ tt))
     (eq-or-lt-of-le {n = x} {m = 137} (omega arith)))
 
 fields-value : (x t : ℕ) → x * 8388608 + t ≤ 0x456F1000 → t < 8388608 → OutValue (ofFields binary32 false x t)
 unfolding ofFields
-fields-value zero t h l = value-small _ (t * 2 ^ 0) (2 ^ 149) (pow-pos 149) (odd-sign 24 false t 0 149) (le-trans {m = 8388608} (omega arith) (lit≤ tt))
+fields-value zero t h l =
+    value-small _ (t * 2 ^ 0) (2 ^ 149) (pow-pos 149) (odd-sign 24 false t 0 149) (le-trans {m = 8388608} (omega arith) (lit≤ tt))
 fields-value (suc x) t h l =
     rw (ne-eqb (suc x) 255 (λ e. omega arith))
-    (value-small _ ((8388608 + t) * 2 ^ x) (2 ^ 149) (pow-pos 149) (odd-sign 24 false (8388608 + t) x 149) (digits-small x t (omega arith) l))
+    (value-small _ ((8388608 + t) * 2 ^ x) (2 ^ 149) (pow-pos 149) (odd-sign 24 false (8388608 + t) x 149)
+    (digits-small x t (omega arith) l))
 
 bits-value : (b : ℕ) → b ≤ 0x456F1000 → OutValue (ofBits binary32 b)
 unfolding ofBits
-bits-value b h = rw (lt-leb 2147483648 b (omega arith)) (fields-value (b % 2147483648 / 8388608) (b % 8388608) (omega arith) (omega arith))
+bits-value b h =
+    rw (lt-leb 2147483648 b (omega arith)) (fields-value (b % 2147483648 / 8388608) (b % 8388608) (omega arith) (omega arith))
 
 pub out-value : (x : Float) → T (fits binary32 x) → OutInRange x → OutValue x
 out-value x f r = subst OutValue (ofBits-toBits binary32 x f) (bits-value (toBits binary32 x) (r .bits))

@@ -30,7 +30,8 @@ pub with-range : (r a : Audio) → r ≡ a → InRange a → (r ≡ a) × InRang
 with-range r a e h = (e, rw e h)
 
 -- what the types say stays where these four fields do
-pub other-typed : (a b : Audio) → b .ram ≡ a .ram → b .«channel_out» ≡ a .«channel_out» → b .out ≡ a .out → b .«phase_ext» ≡ a .«phase_ext»
+pub other-typed : (a b : Audio) → b .ram ≡ a .ram → b .«channel_out» ≡ a .«channel_out» → b .out ≡ a .out → b .«phase_ext»
+    ≡ a .«phase_ext»
     → Typed a → Typed b
 other-typed a b m c o p t =
     record {
@@ -42,7 +43,8 @@ other-typed a b m c o p t =
     }
 
 -- and the range where three do, with a counter, a channel and an address in range; the sound RAM may hold anything
-pub other-range : (a b : Audio) → b .«update_counter» ≤ 14 → b .«current_channel» ≤ 7 → b .addr ≤ 127 → b .«channel_out» ≡ a .«channel_out»
+pub other-range : (a b : Audio) → b .«update_counter» ≤ 14 → b .«current_channel» ≤ 7 → b .addr ≤ 127 → b .«channel_out»
+    ≡ a .«channel_out»
     → b .out ≡ a .out → b .«phase_ext» ≡ a .«phase_ext» → InRange a → InRange b
 other-range a b u k d c o p r =
     record {
@@ -63,7 +65,8 @@ below-set (x ∷ xs) zero v b h hv (suc i) = h (suc i)
 below-set (x ∷ xs) (suc k) v b h hv zero = h zero
 below-set (x ∷ xs) (suc k) v b h hv (suc i) = below-set xs k v b (λ j. h (suc j)) hv i
 
-levels-set : (outs : List Float) (k : ℕ) (v : Float) → Level v → (n : ℕ) → ((i : ℕ) → i < n → Level (getD outs i nan)) → (i : ℕ) → i < n → Level (getD (set outs k v) i nan)
+levels-set : (outs : List Float) (k : ℕ) (v : Float) → Level v → (n : ℕ) → ((i : ℕ) → i < n → Level (getD outs i nan)) → (i : ℕ)
+    → i < n → Level (getD (set outs k v) i nan)
 levels-set [] k v l n h i b = h i b
 levels-set (x ∷ xs) zero v l n h zero b = l
 levels-set (x ∷ xs) zero v l n h (suc i) b = h (suc i) b
@@ -120,7 +123,8 @@ drop-small ks zero h = h
 drop-small [] (suc n) h = h
 drop-small (k ∷ ks) (suc n) h = drop-small ks n (λ i. h (suc i))
 
-pub mixed-total : (ks : List ℕ) (c : ℕ) → length ks ≡ 8 → c < 8 → ((i : ℕ) → getD ks i 0 < 3826) → total (drop (7 - c) ks) ≤ 3825 * (c + 1)
+pub mixed-total : (ks : List ℕ) (c : ℕ) → length ks ≡ 8 → c < 8 → ((i : ℕ) → getD ks i 0 < 3826) → total (drop (7 - c) ks) ≤ 3825 *
+    (c + 1)
 mixed-total ks c e l h =
     omega (arith, total-small (drop (7 - c) ks) (drop-small ks (7 - c) h), length-drop (7 - c) ks)
 
@@ -137,7 +141,8 @@ low-enough (fin false m e) p h = record { mantissa = m; exponent = e; is = refl;
 quotient-value : (size c : ℕ) → size ≤ 3825 * (c + 1) → OutValue (round binary32 false size (c + 1))
 unfolding ofInt
 quotient-value size c h =
-    low-enough _ (round-plus binary32 size (c + 1)) (round-mono binary32 size (c + 1) 3825 1 (omega arith) (omega arith) (omega arith))
+    low-enough _ (round-plus binary32 size (c + 1))
+    (round-mono binary32 size (c + 1) 3825 1 (omega arith) (omega arith) (omega arith))
 
 -- the mix of eight channel outputs is in 0..=3825, finite and no negative zero
 pub mix-value : (outs : List Float) (c : ℕ) → length outs ≡ 8 → Levels outs → c < 8 → OutValue (mixOf outs c)
@@ -168,10 +173,12 @@ update-levels a h = levels-set (a .«channel_out») _ _ (record { size = _; smal
 pub update-value : (a : Audio) → Typed a → InRange a → OutValue (updateChannel a .out)
 unfolding updateChannel
 update-value a t r =
-    mix-value (updateChannel a .«channel_out») (channelCount (a .ram)) (update-typed a t .«outputs-length») (update-levels a (r .outputs)) (omega arith)
+    mix-value (updateChannel a .«channel_out») (channelCount (a .ram)) (update-typed a t .«outputs-length»)
+    (update-levels a (r .outputs)) (omega arith)
 
 -- and with 1, 2, 4 or 8 channels it is exactly the sum of their whole outputs over their number
-pub update-exact : (a : Audio) → Typed a → (z : Sizes (updateChannel a .«channel_out»)) (j : ℕ) → j ≤ 3 → channelCount (a .ram) + 1 ≡ 2 ^ j
+pub update-exact : (a : Audio) → Typed a → (z : Sizes (updateChannel a .«channel_out»)) (j : ℕ) → j ≤ 3 → channelCount (a .ram) + 1
+    ≡ 2 ^ j
     → HasValue (updateChannel a .out) false (total (drop (7 - channelCount (a .ram)) (z .sizes))) (channelCount (a .ram) + 1)
 unfolding updateChannel
 update-exact a t z j h e =
@@ -186,7 +193,8 @@ update-range a t r =
       counter = r .counter;
       channel = r .channel;
       address = r .address;
-      phases = below-set (a .«phase_ext») (a .«current_channel») _ 16777216 (r .phases) (next-phase-small (a .ram) _ _ (t .bytes _));
+      phases = below-set (a .«phase_ext») (a .«current_channel») _ 16777216 (r .phases)
+          (next-phase-small (a .ram) _ _ (t .bytes _));
       outputs = update-levels a (r .outputs);
       mixed = value-out _ (update-value a t r);
     }
@@ -198,7 +206,8 @@ updated-typed a t = other-typed (updateChannel a) _ refl refl refl refl (update-
 pub updated-range : (a : Audio) → Typed a → InRange a → InRange (updated a)
 unfolding updated updateChannel
 updated-range a t r =
-    other-range (updateChannel a) _ (r .counter) (next-channel-small _ _ (r .channel)) (r .address) refl refl refl (update-range a t r)
+    other-range (updateChannel a) _ (r .counter) (next-channel-small _ _ (r .channel)) (r .address) refl refl refl
+    (update-range a t r)
 
 counter-typed : (a : Audio) (u : ℕ) → Typed a → Typed (withCounter a u)
 counter-typed a u t = other-typed a _ refl refl refl refl t
@@ -221,10 +230,12 @@ pub clock-range : (a : Audio) → Typed a → InRange a → InRange (soundClock 
 unfolding soundClock
 clock-range a t r = go (a .disabled) (eqb (a .«update_counter» + 1) 15) refl
   where
-    go : (d e : Bool) → eqb (a .«update_counter» + 1) 15 ≡ e → InRange (cond d a (cond e (updated (withCounter a 0)) (withCounter a (a .«update_counter» + 1))))
+    go : (d e : Bool) → eqb (a .«update_counter» + 1) 15 ≡ e → InRange
+        (cond d a (cond e (updated (withCounter a 0)) (withCounter a (a .«update_counter» + 1))))
     go true e p = r
     go false true p = updated-range (withCounter a 0) (counter-typed a 0 t) (counter-range a 0 (omega arith) r)
-    go false false p = counter-range a (a .«update_counter» + 1) (omega (arith, eqb-false (a .«update_counter» + 1) 15 p, r .counter)) r
+    go false false p = counter-range a (a .«update_counter» + 1)
+        (omega (arith, eqb-false (a .«update_counter» + 1) 15 p, r .counter)) r
 
 pub run-typed : (n : ℕ) (a : Audio) → Typed a → Typed (soundRun n a)
 unfolding soundRun
@@ -256,7 +267,8 @@ outputs-number zero a t r i h = absurd (none i h)
 outputs-number (suc k) a t r zero h = output-number (updateChannel a .out) (update-value a t r)
 outputs-number (suc k) a t r (suc i) h = outputs-number k (updated a) (updated-typed a t) (updated-range a t r) i (omega arith)
 
-pub samples-number : (n : ℕ) (a : Audio) → Typed a → InRange a → (i : ℕ) → i < length (samplesOf n a) → T (not (isNan (getD (samplesOf n a) i nan)))
+pub samples-number : (n : ℕ) (a : Audio) → Typed a → InRange a → (i : ℕ) → i < length (samplesOf n a) → T
+    (not (isNan (getD (samplesOf n a) i nan)))
 samples-number n a t r i = go (a .disabled) refl
   where
     go : (d : Bool) → a .disabled ≡ d → i < length (samplesOf n a) → T (not (isNan (getD (samplesOf n a) i nan)))
@@ -297,7 +309,8 @@ fresh-range =
       channel = omega arith;
       address = omega arith;
       phases = fresh-phases 8;
-      outputs = λ i h. rw (getD-replicate 8 i (ofBits binary32 0) nan h, zero-bits) (record { size = 0; small = omega arith; is = refl });
+      outputs = λ i h. rw (getD-replicate 8 i (ofBits binary32 0) nan h, zero-bits)
+          (record { size = 0; small = omega arith; is = refl });
       mixed = record { number = tt; bits = omega arith };
     }
 
@@ -339,9 +352,11 @@ pub written-typed : (a : Audio) (addr val : ℕ) → val < 256 → Typed a → T
 unfolding written
 written-typed a addr val h t = go (within 0x4800 0x4FFF addr) (within 0xE000 0xE7FF addr) (within 0xF800 0xFFFF addr)
   where
-    go : (x y z : Bool) → Typed (cond x (advanced (withRam a (set (a .ram) (a .addr) val))) (cond y (withDisabled a (eqb (val / 64 % 2) 1)) (cond z (withAddr a (val % 128) (eqb (val / 128) 1)) a)))
+    go : (x y z : Bool) → Typed (cond x (advanced (withRam a (set (a .ram) (a .addr) val)))
+        (cond y (withDisabled a (eqb (val / 64 % 2) 1)) (cond z (withAddr a (val % 128) (eqb (val / 128) 1)) a)))
     go true y z =
-        advanced-typed _ (ram-typed a _ (length-set (a .ram) (a .addr) val ∙ t .«ram-length») (below-set (a .ram) (a .addr) val 256 (t .bytes) h) t)
+        advanced-typed _ (ram-typed a _ (length-set (a .ram) (a .addr) val ∙ t .«ram-length»)
+        (below-set (a .ram) (a .addr) val 256 (t .bytes) h) t)
     go false true z = other-typed a _ refl refl refl refl t
     go false false true = other-typed a _ refl refl refl refl t
     go false false false = t
@@ -350,7 +365,8 @@ pub written-range : (a : Audio) (addr val : ℕ) → InRange a → InRange (writ
 unfolding written
 written-range a addr val r = go (within 0x4800 0x4FFF addr) (within 0xE000 0xE7FF addr) (within 0xF800 0xFFFF addr)
   where
-    go : (x y z : Bool) → InRange (cond x (advanced (withRam a (set (a .ram) (a .addr) val))) (cond y (withDisabled a (eqb (val / 64 % 2) 1)) (cond z (withAddr a (val % 128) (eqb (val / 128) 1)) a)))
+    go : (x y z : Bool) → InRange (cond x (advanced (withRam a (set (a .ram) (a .addr) val)))
+        (cond y (withDisabled a (eqb (val / 64 % 2) 1)) (cond z (withAddr a (val % 128) (eqb (val / 128) 1)) a)))
     go true y z = advanced-range _ (ram-range a _ r)
     go false true z = other-range a _ (r .counter) (r .channel) (r .address) refl refl refl r
     go false false true = addr-range a _ _ (omega arith) r

@@ -85,10 +85,12 @@ level-agrees n v h =
 
 -- the level at a phase, against the wiki's output there
 pub output-agrees : (ram : List ℕ) (b p : ℕ) → getD ram (wikiPlace ram b p / 2) 0 < 256
-    → pos (levelAt ram b p) ≡ wikiOutput ram b p +ℤ pos (cond (leb 8 (wikiSample ram (wikiPlace ram b p))) 0 (256 * wikiVolume ram b))
+    → pos (levelAt ram b p) ≡ wikiOutput ram b p +ℤ pos
+    (cond (leb 8 (wikiSample ram (wikiPlace ram b p))) 0 (256 * wikiVolume ram b))
 unfolding levelAt
 output-agrees ram b p h =
-    rw (sample-agrees ram (wikiPlace ram b p)) (level-agrees (wikiSample ram (wikiPlace ram b p)) (wikiVolume ram b) (nibble (eqb (wikiPlace ram b p % 2) 0)))
+    rw (sample-agrees ram (wikiPlace ram b p))
+    (level-agrees (wikiSample ram (wikiPlace ram b p)) (wikiVolume ram b) (nibble (eqb (wikiPlace ram b p % 2) 0)))
   where
     nibble : (e : Bool) → cond e (getD ram (wikiPlace ram b p / 2) 0 % 16) (getD ram (wikiPlace ram b p / 2) 0 / 16) < 16
     nibble true = omega arith
@@ -112,26 +114,31 @@ phase-agrees wiki a k h g =
       ← g .others (b + 4) (λ m. ((λ e. omega arith), ((λ e. omega arith), (λ e. omega arith)))),
     )
 
-other-stays : (wiki : List ℕ) (b p j : ℕ) → (j ≡ b + 1 → ⊥) → (j ≡ b + 3 → ⊥) → (j ≡ b + 5 → ⊥) → getD (wikiStored wiki b p) j 0 ≡ getD wiki j 0
+other-stays : (wiki : List ℕ) (b p j : ℕ) → (j ≡ b + 1 → ⊥) → (j ≡ b + 3 → ⊥) → (j ≡ b + 5 → ⊥) → getD (wikiStored wiki b p) j 0
+    ≡ getD wiki j 0
 other-stays wiki b p j x y z =
     getD-set-other (set (set wiki (b + 1) (p % 256)) (b + 3) (p / 256 % 256)) (b + 5) j _ 0 z
     ∙ getD-set-other (set wiki (b + 1) (p % 256)) (b + 3) j _ 0 y
     ∙ getD-set-other wiki (b + 1) j _ 0 x
 
 -- a phase that is stored is read back
-pub stored-phase : (wiki : List ℕ) (k p : ℕ) → length wiki ≡ 128 → k < 8 → p < 16777216 → wikiPhase (wikiStored wiki (wikiBase k) p) (wikiBase k) ≡ p
+pub stored-phase : (wiki : List ℕ) (k p : ℕ) → length wiki ≡ 128 → k < 8 → p < 16777216 → wikiPhase (wikiStored wiki (wikiBase k) p)
+    (wikiBase k) ≡ p
 stored-phase wiki k p l h q =
     let b = wikiBase k in
     let w1 = set wiki (b + 1) (p % 256) in
     let w2 = set w1 (b + 3) (p / 256 % 256) in
     let l1 : length w1 ≡ 128 = length-set wiki (b + 1) (p % 256) ∙ l in
     let l2 : length w2 ≡ 128 = length-set w1 (b + 3) (p / 256 % 256) ∙ l1 in
-    let one : getD (wikiStored wiki b p) (b + 1) 0 ≡ p % 256 = getD-set-other w2 (b + 5) (b + 1) _ 0 (λ e. omega arith) ∙ getD-set-other w1 (b + 3) (b + 1) _ 0 (λ e. omega arith) ∙ getD-set-same wiki (b + 1) _ 0 (omega arith) in
-    let two : getD (wikiStored wiki b p) (b + 3) 0 ≡ p / 256 % 256 = getD-set-other w2 (b + 5) (b + 3) _ 0 (λ e. omega arith) ∙ getD-set-same w1 (b + 3) _ 0 (omega arith) in
+    let one : getD (wikiStored wiki b p) (b + 1) 0 ≡ p % 256 = getD-set-other w2 (b + 5) (b + 1) _ 0 (λ e. omega arith)
+    ∙ getD-set-other w1 (b + 3) (b + 1) _ 0 (λ e. omega arith) ∙ getD-set-same wiki (b + 1) _ 0 (omega arith) in
+    let two : getD (wikiStored wiki b p) (b + 3) 0 ≡ p / 256 % 256 = getD-set-other w2 (b + 5) (b + 3) _ 0 (λ e. omega arith)
+    ∙ getD-set-same w1 (b + 3) _ 0 (omega arith) in
     let three : getD (wikiStored wiki b p) (b + 5) 0 ≡ p / 65536 % 256 = getD-set-same w2 (b + 5) _ 0 (omega arith) in
     rw (one, two, three) (omega arith)
 
-pub holds-stored : (wiki ram phases : List ℕ) (k p : ℕ) → length wiki ≡ 128 → length phases ≡ 8 → k < 8 → p < 16777216 → Holds wiki ram phases
+pub holds-stored : (wiki ram phases : List ℕ) (k p : ℕ) → length wiki ≡ 128 → length phases ≡ 8 → k < 8 → p < 16777216
+    → Holds wiki ram phases
     → Holds (wikiStored wiki (wikiBase k) p) ram (set phases k p)
 holds-stored wiki ram phases k p l n h q g =
     record {
@@ -162,13 +169,15 @@ holds-stored wiki ram phases k p l n h q g =
 
 -- the update of the port keeps the two in step: the wiki stores its next phase where the port replaces its own
 pub update-agrees : (wiki : List ℕ) (a : Audio) → length wiki ≡ 128 → Typed a → InRange a → Holds wiki (a .ram) (a .«phase_ext»)
-    → Holds (wikiStored wiki (wikiBase (a .«current_channel»)) (wikiNextPhase wiki (wikiBase (a .«current_channel»)))) (updateChannel a .ram) (updateChannel a .«phase_ext»)
+    → Holds (wikiStored wiki (wikiBase (a .«current_channel»)) (wikiNextPhase wiki (wikiBase (a .«current_channel»))))
+    (updateChannel a .ram) (updateChannel a .«phase_ext»)
 unfolding updateChannel
 update-agrees wiki a l t r g =
     let k = a .«current_channel» in
     let h : k < 8 = omega (arith, r .channel) in
     rw (phase-agrees wiki a k h g)
-    (holds-stored wiki (a .ram) (a .«phase_ext») k _ l (t .«phases-length») h (next-phase-small (a .ram) (baseAddr k) _ (t .bytes _)) g)
+    (holds-stored wiki (a .ram) (a .«phase_ext») k _ l (t .«phases-length») h
+    (next-phase-small (a .ram) (baseAddr k) _ (t .bytes _)) g)
 
 -- and a sample is the same in both, but where it lies in a byte that holds a phase
 pub place-agrees : (wiki ram phases : List ℕ) (x : ℕ) → Holds wiki ram phases → NoPhase (x / 2) → wikiSample wiki x ≡ nibbleAt ram x
@@ -194,7 +203,8 @@ sum-enabled c k zero xs h = all-enabled c k xs (omega arith)
 sum-enabled c k (suc m) [] h = refl
 sum-enabled c k (suc m) (x ∷ xs) h = rw (lt-leb 7 (k + c) (omega arith)) (zero-add _ ∙ sum-enabled c (k + 1) m xs (omega arith))
 
-pub mix-agrees : (ks : List ℕ) (c : ℕ) → c < 8 → total (drop (7 - c) ks) ≤ 16777216 → mixOf (map whole ks) c ≡ round binary32 false (wikiSum c 0 ks) (c + 1)
+pub mix-agrees : (ks : List ℕ) (c : ℕ) → c < 8 → total (drop (7 - c) ks) ≤ 16777216 → mixOf (map whole ks) c ≡ round binary32 false
+    (wikiSum c 0 ks) (c + 1)
 mix-agrees ks c l h = rw (sum-enabled c 0 (7 - c) ks (omega arith)) (mix-rounds ks c h l)
 
 -- the first update is channel 7's, each is an enabled channel's, and the next one is the port's next channel
@@ -236,19 +246,26 @@ advance-agrees a h = go (a .«auto_increment»)
     go false = refl
 
 -- 4800..4FFF reads the byte at the address, and writes it before the address moves
-pub read-agrees : (a : Audio) (addr : ℕ) → 0x4800 ≤ addr → addr ≤ 0x4FFF → readOf a addr ≡ record { byte = getD (a .ram) (a .addr) 0; audio = advanced a }
+pub read-agrees : (a : Audio) (addr : ℕ) → 0x4800 ≤ addr → addr ≤ 0x4FFF → readOf a addr
+    ≡ record { byte = getD (a .ram) (a .addr) 0; audio = advanced a }
 unfolding readOf peeked
 read-agrees a addr l h = rw (inside 0x4800 0x4FFF addr l h)
 
-pub write-agrees : (a : Audio) (addr val : ℕ) → 0x4800 ≤ addr → addr ≤ 0x4FFF → written a addr val ≡ advanced (withRam a (set (a .ram) (a .addr) val))
+pub write-agrees : (a : Audio) (addr val : ℕ) → 0x4800 ≤ addr → addr ≤ 0x4FFF → written a addr val ≡ advanced
+    (withRam a (set (a .ram) (a .addr) val))
 unfolding written
 write-agrees a addr val l h = rw (inside 0x4800 0x4FFF addr l h)
 
 -- F800..FFFF sets the address and the auto-increment
-pub port-agrees : (a : Audio) (addr val : ℕ) → 0xF800 ≤ addr → addr ≤ 0xFFFF → val < 256 → written a addr val ≡ withAddr a (wikiAddress val) (wikiAuto val)
+pub port-agrees : (a : Audio) (addr val : ℕ) → 0xF800 ≤ addr → addr ≤ 0xFFFF → val < 256 → written a addr val ≡ withAddr a
+    (wikiAddress val) (wikiAuto val)
 unfolding written
 port-agrees a addr val l h v =
-    rw (past 0x4800 0x4FFF addr (omega arith) (omega arith), past 0xE000 0xE7FF addr (omega arith) (omega arith), inside 0xF800 0xFFFF addr l h)
+    rw (
+      past 0x4800 0x4FFF addr (omega arith) (omega arith),
+      past 0xE000 0xE7FF addr (omega arith) (omega arith),
+      inside 0xF800 0xFFFF addr l h,
+    )
     (⊎-elim
     (λ (b : 128 ≤ val). rw (eq-eqb (val / 128) 1 (omega arith), le-leb 128 val b))
     (λ (b : val < 128). rw (ne-eqb (val / 128) 1 (λ e. omega arith), lt-leb 128 val b))

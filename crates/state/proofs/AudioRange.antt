@@ -103,7 +103,8 @@ ok-level x f e =
     record {
       size = k;
       small = part-small (toBits binary32 x) small;
-      is = sym (ofBits-toBits binary32 x f) ∙ ap (ofBits binary32) (sym same) ∙ ofBits-toBits binary32 (whole k) (ofInt-fits binary32 (pos k));
+      is = sym (ofBits-toBits binary32 x f) ∙ ap (ofBits binary32) (sym same)
+          ∙ ofBits-toBits binary32 (whole k) (ofInt-fits binary32 (pos k));
     }
 
 -- ---- the sound's fields, both ways
@@ -148,7 +149,8 @@ audio-in a l f e =
       channel = leb-true _ _ (and-left channel _ e1);
       address = leb-true _ _ (and-left addr _ e2);
       phases = phase-in (a .«phase_ext») l (and-left phases _ e3);
-      outputs = λ i h. ok-level (getD (a .«channel_out») i nan) (f i) (every-at 8 (outputTest (a .«channel_out»)) (and-left outs _ e4) i h);
+      outputs = λ i h. ok-level (getD (a .«channel_out») i nan) (f i)
+          (every-at 8 (outputTest (a .«channel_out»)) (and-left outs _ e4) i h);
       mixed = out-in (a .out) (and-right outs _ e4);
     }
 

@@ -39,7 +39,8 @@ pub cycle-agrees : (r : Regs) → r .«irq_counter» < 65536 → irqOf (clockCou
 unfolding wikiCycle plainClock
 cycle-agrees r h = ap irqOf (clock-plain r) ∙ go (leb 0x8000 (r .«irq_counter»)) (eqb (r .«irq_counter») 0xFFFF) refl refl
   where
-    go : (a b : Bool) → leb 0x8000 (r .«irq_counter») ≡ a → eqb (r .«irq_counter») 0xFFFF ≡ b → irqOf (plainClock r) ≡ wikiCycle (irqOf r)
+    go : (a b : Bool) → leb 0x8000 (r .«irq_counter») ≡ a → eqb (r .«irq_counter») 0xFFFF ≡ b → irqOf (plainClock r) ≡ wikiCycle
+        (irqOf r)
     go false b p q = rw (lt-ltb (r .«irq_counter») 0x8000 (leb-false 0x8000 (r .«irq_counter») p), p)
     go true true p q =
         let e = eqb-true (r .«irq_counter») 0xFFFF q in
@@ -50,7 +51,16 @@ cycle-agrees r h = ap irqOf (clock-plain r) ∙ go (leb 0x8000 (r .«irq_counter
         let s : r .«irq_counter» < 0xFFFF = omega (arith, ne) in
         let n : (r .«irq_counter» + 1) % 2 ^ 16 ≡ r .«irq_counter» + 1 = omega arith in
         let m : (r .«irq_counter» + 1) % 0x8000 ≡ r .«irq_counter» % 0x8000 + 1 = omega arith in
-        rw (le-ltb (r .«irq_counter») 0x8000 l, q, n, p, lt-ltb (r .«irq_counter» % 0x8000) 0x7FFF (omega arith), m, le-leb 0x8000 (r .«irq_counter» + 1) (omega arith), ends (r .«irq_counter») l s)
+        rw (
+          le-ltb (r .«irq_counter») 0x8000 l,
+          q,
+          n,
+          p,
+          lt-ltb (r .«irq_counter» % 0x8000) 0x7FFF (omega arith),
+          m,
+          le-leb 0x8000 (r .«irq_counter» + 1) (omega arith),
+          ends (r .«irq_counter») l s,
+        )
         (pending (eqb (r .«irq_counter» % 0x8000 + 1) 0x7FFF))
       where
         ends : (c : ℕ) → 0x8000 ≤ c → c < 0xFFFF → eqb (c + 1) 0xFFFF ≡ eqb (c % 0x8000 + 1) 0x7FFF
@@ -61,7 +71,12 @@ cycle-agrees r h = ap irqOf (clock-plain r) ∙ go (leb 0x8000 (r .«irq_counter
             by (no ne) = rw (ne-eqb (c + 1) 0xFFFF ne, ne-eqb (c % 0x8000 + 1) 0x7FFF (λ e. ne (omega arith)))
 
         pending : (t : Bool)
-            → _≡_ {A = WikiIrq} (record { count = r .«irq_counter» % 0x8000 + 1; enabled = true; raised = cond t true (r .«irq_pending») })
+            → _≡_ {A = WikiIrq} (record {
+              count = r .«irq_counter» % 0x8000 + 1;
+              enabled = true;
+              raised = cond t true
+                  (r .«irq_pending»);
+            })
             (record { count = r .«irq_counter» % 0x8000 + 1; enabled = true; raised = t || r .«irq_pending» })
         pending true = refl
         pending false = refl
@@ -76,7 +91,8 @@ low-agrees r v h b =
     same : leb 0x8000 (r .«irq_counter» / 256 * 256 + v) ≡ leb 0x8000 (r .«irq_counter»)
     same = go (leb 0x8000 (r .«irq_counter»)) refl
       where
-        go : (t : Bool) → leb 0x8000 (r .«irq_counter») ≡ t → leb 0x8000 (r .«irq_counter» / 256 * 256 + v) ≡ leb 0x8000 (r .«irq_counter»)
+        go : (t : Bool) → leb 0x8000 (r .«irq_counter») ≡ t → leb 0x8000 (r .«irq_counter» / 256 * 256 + v) ≡ leb 0x8000
+            (r .«irq_counter»)
         go true p = le-leb 0x8000 (r .«irq_counter» / 256 * 256 + v) (omega (arith, leb-true 0x8000 (r .«irq_counter») p)) ∙ sym p
         go false p = lt-leb 0x8000 (r .«irq_counter» / 256 * 256 + v) (omega (arith, leb-false 0x8000 (r .«irq_counter») p)) ∙ sym p
 
@@ -95,7 +111,8 @@ high-agrees r v h b =
             le-leb 0x8000 (r .«irq_counter» % 256 + v * 256) (omega arith) ∙ sym (eq-eqb (v / 128 % 2) 1 (omega arith))
         go false p =
             let l = leb-false 128 v p in
-            lt-leb 0x8000 (r .«irq_counter» % 256 + v * 256) (omega arith) ∙ sym (ne-eqb (v / 128 % 2) 1 (λ e. absurd (omega arith)))
+            lt-leb 0x8000 (r .«irq_counter» % 256 + v * 256) (omega arith)
+            ∙ sym (ne-eqb (v / 128 % 2) 1 (λ e. absurd (omega arith)))
 
 -- and read
 pub read-low-agrees : (n : Namco163) (a : ℕ) → 0x5000 ≤ a → a < 0x5800 → served n a ≡ Byte (wikiReadLow (irqOf (n .regs)))
@@ -111,7 +128,8 @@ read-high-agrees n a b l h =
     rw (le-ltb a 0x4800 (omega arith), le-ltb a 0x5000 (omega arith), le-ltb a 0x5800 l, lt-ltb a 0x6000 h)
     (ap Byte (go (leb 0x8000 (n .regs .«irq_counter»)) refl))
   where
-    go : (t : Bool) → leb 0x8000 (n .regs .«irq_counter») ≡ t → n .regs .«irq_counter» / 256 ≡ cond t 128 0 + n .regs .«irq_counter» % 0x8000 / 256
+    go : (t : Bool) → leb 0x8000 (n .regs .«irq_counter») ≡ t → n .regs .«irq_counter» / 256
+        ≡ cond t 128 0 + n .regs .«irq_counter» % 0x8000 / 256
     go true p = omega (arith, leb-true 0x8000 (n .regs .«irq_counter») p)
     go false p = omega (arith, leb-false 0x8000 (n .regs .«irq_counter») p)
 
@@ -157,7 +175,8 @@ written-disabled : (a : Audio) (addr v : ℕ) → within 0xE000 0xE7FF addr ≡ 
 unfolding written
 written-disabled a addr v e = rw e (go (within 0x4800 0x4FFF addr) (within 0xF800 0xFFFF addr))
   where
-    go : (x z : Bool) → cond x (advanced (withRam a (set (a .ram) (a .addr) v))) (cond z (withAddr a (v % 128) (eqb (v / 128) 1)) a) .disabled ≡ a .disabled
+    go : (x z : Bool) → cond x (advanced (withRam a (set (a .ram) (a .addr) v)))
+        (cond z (withAddr a (v % 128) (eqb (v / 128) 1)) a) .disabled ≡ a .disabled
     go true z = advanced-disabled (withRam a (set (a .ram) (a .addr) v))
     go false true = refl
     go false false = refl
@@ -174,11 +193,14 @@ above-e7ff a h = rw (le-leb 0xE000 a (omega arith), lt-leb a 0xE7FF (omega arith
 ciram-agrees : (w : WikiRegs) (n : Namco163) (a v : ℕ) → Beside w n → 0x8000 ≤ a → a < 0xE000
     → setsCiram n a v ≡ leb 0xE0 v && wikiAllowed (getD (w .pages) 1 0) ((a - 0x8000) / 0x800)
 unfolding setsCiram wikiAllowed
-ciram-agrees w n a v q l h = rw (q .board, q .low, q .high) (ap (λ (t : Bool). leb 0xE0 v && t) (by (ltb a 0xA000) (ltb a 0xC000) refl refl))
+ciram-agrees w n a v q l h =
+    rw (q .board, q .low, q .high) (ap (λ (t : Bool). leb 0xE0 v && t) (by (ltb a 0xA000) (ltb a 0xC000) refl refl))
   where
     by : (x y : Bool) → ltb a 0xA000 ≡ x → ltb a 0xC000 ≡ y
-        → cond (ltb a 0xA000) (not (wikiBit 6 (getD (w .pages) 1 0))) (cond (ltb a 0xC000) (not (wikiBit 7 (getD (w .pages) 1 0))) true)
-        ≡ cond (ltb ((a - 0x8000) / 0x800) 4) (not (wikiBit 6 (getD (w .pages) 1 0))) (cond (ltb ((a - 0x8000) / 0x800) 8) (not (wikiBit 7 (getD (w .pages) 1 0))) true)
+        → cond (ltb a 0xA000) (not (wikiBit 6 (getD (w .pages) 1 0)))
+        (cond (ltb a 0xC000) (not (wikiBit 7 (getD (w .pages) 1 0))) true)
+        ≡ cond (ltb ((a - 0x8000) / 0x800) 4) (not (wikiBit 6 (getD (w .pages) 1 0)))
+        (cond (ltb ((a - 0x8000) / 0x800) 8) (not (wikiBit 7 (getD (w .pages) 1 0))) true)
     by true y p r = let g = ltb-true a 0xA000 p in rw (p, lt-ltb ((a - 0x8000) / 0x800) 4 (omega arith))
     by false true p r =
         let g = ltb-false a 0xA000 p in
@@ -214,7 +236,8 @@ slot-other n a v k ne =
     )
 
 -- 8000..DFFF
-window-written : (w : WikiRegs) (n : Namco163) (a v : ℕ) → Beside w n → 0x8000 ≤ a → a < 0xE000 → Beside (wikiWrite w a v) (writeSlot n a v)
+window-written : (w : WikiRegs) (n : Namco163) (a v : ℕ) → Beside w n → 0x8000 ≤ a → a < 0xE000 → Beside (wikiWrite w a v)
+    (writeSlot n a v)
 unfolding wikiWrite writeSlot
 window-written w n a v q l h =
     rw (le-ltb a 0x8000 l, lt-ltb a 0xE000 h)
@@ -238,7 +261,8 @@ window-written w n a v q l h =
   where
     by : (k : ℕ) → k < 12 → Dec (k ≡ (a - 0x8000) / 0x800)
         → slotShows (writeSlot n a v) k ≡ wikiSelects (getD (w .pages) 1 0) k (getD (set (w .windows) ((a - 0x8000) / 0x800) v) k 0)
-    by k b (yes e) = rw (e, getD-set-same (w .windows) ((a - 0x8000) / 0x800) v 0 (omega (arith, q .twelve .1 .1))) (slot-agrees w n a v q l h)
+    by k b (yes e) = rw (e, getD-set-same (w .windows) ((a - 0x8000) / 0x800) v 0 (omega (arith, q .twelve .1 .1)))
+        (slot-agrees w n a v q l h)
     by k b (no ne) = rw (getD-set-other (w .windows) ((a - 0x8000) / 0x800) k v 0 ne) (slot-other n a v k ne ∙ q .windows k b)
 
 -- on a 163 C000..DFFF are slots like the others
@@ -266,13 +290,26 @@ selects-same : (x y k v : ℕ) → wikiBit 6 x ≡ wikiBit 6 y → wikiBit 7 x �
 unfolding wikiSelects wikiAllowed
 selects-same x y k v p q = rw (p, q)
 
-e000-written : (w : WikiRegs) (n : Namco163) (a v : ℕ) → Beside w n → 0xE000 ≤ a → a < 0xE800 → Beside (wikiWrite w a v) (writeE000 n a v)
+e000-written : (w : WikiRegs) (n : Namco163) (a v : ℕ) → Beside w n → 0xE000 ≤ a → a < 0xE800 → Beside (wikiWrite w a v)
+    (writeE000 n a v)
 unfolding wikiWrite writeE000 highBitsE000 detectE000 written
 e000-written w n a v q l h =
     let e : (a - 0xE000) / 0x800 ≡ 0 = omega arith in
     let one : getD (set (w .pages) 0 v) 1 0 ≡ getD (w .pages) 1 0 = getD-set-other (w .pages) 0 1 v 0 (λ z. omega arith) in
     let zero : getD (set (w .pages) 0 v) 0 0 ≡ v = getD-set-same (w .pages) 0 v 0 (omega (arith, q .three .1)) in
-    rw (le-ltb a 0x8000 (omega arith), le-ltb a 0xE000 l, lt-ltb a 0xF800 (omega arith), e, settled n Namco340 (q .settled), same (bit7 v || (bit6 v && not (is163 (n .board)))), q .board, le-leb 0x4800 a (omega arith), lt-leb a 0x4FFF (omega arith), le-leb 0xE000 a l, le-leb a 0xE7FF (omega arith))
+    rw (
+      le-ltb a 0x8000 (omega arith),
+      le-ltb a 0xE000 l,
+      lt-ltb a 0xF800 (omega arith),
+      e,
+      settled n Namco340 (q .settled),
+      same (bit7 v || (bit6 v && not (is163 (n .board)))),
+      q .board,
+      le-leb 0x4800 a (omega arith),
+      lt-leb a 0x4FFF (omega arith),
+      le-leb 0xE000 a l,
+      le-leb a 0xE7FF (omega arith),
+    )
     (record {
       settled = q .settled;
       board = refl;
@@ -310,7 +347,8 @@ e800-written w n a v q l h p r =
       three = (length-set (n .«prg_banks») 1 (v % 64) ∙ q .three .0, length-set (w .pages) 1 v ∙ q .three .1);
     })
 
-f000-written : (w : WikiRegs) (n : Namco163) (a v : ℕ) → Beside w n → 0xF000 ≤ a → a < 0xF800 → Beside (wikiWrite w a v) (writeF000 n v)
+f000-written : (w : WikiRegs) (n : Namco163) (a v : ℕ) → Beside w n → 0xF000 ≤ a → a < 0xF800 → Beside (wikiWrite w a v)
+    (writeF000 n v)
 unfolding wikiWrite writeF000
 f000-written w n a v q l h =
     let e : (a - 0xE000) / 0x800 ≡ 2 = omega arith in
@@ -376,31 +414,41 @@ unfolding writeChip
 write-agrees w n a v q s =
     let below : (h : a < 0x8000) → (m : Namco163) → Beside w m → Beside (wikiWrite w a v) m = λ h m b. rw (wiki-below w a v h) b in
     choose _ (ltb a 0x4800) _ _ (λ t. below (omega (arith, ltb-true a 0x4800 t)) n q) (λ u0.
-    choose _ (ltb a 0x5000) _ _ (λ t. below (omega (arith, ltb-true a 0x5000 t)) _ (sound-written w n a v q (omega (arith, ltb-true a 0x5000 t)))) (λ u1.
+    choose _ (ltb a 0x5000) _ _ (λ t. below (omega (arith, ltb-true a 0x5000 t)) _
+    (sound-written w n a v q (omega (arith, ltb-true a 0x5000 t)))) (λ u1.
     choose _ (ltb a 0x5800) _ _ (λ t. below (omega (arith, ltb-true a 0x5800 t)) _ (counter-low-written w n v q)) (λ u2.
     choose _ (ltb a 0x6000) _ _ (λ t. below (omega (arith, ltb-true a 0x6000 t)) _ (counter-high-written w n v q)) (λ u3.
-    choose _ (ltb a 0x8000) _ _ (λ t. below (ltb-true a 0x8000 t) _ (rw (never-unknown n) (beside-same w n (withWritten n true) refl refl refl refl refl refl refl refl q))) (λ u4.
+    choose _ (ltb a 0x8000) _ _ (λ t. below (ltb-true a 0x8000 t) _
+    (rw (never-unknown n) (beside-same w n (withWritten n true) refl refl refl refl refl refl refl refl q))) (λ u4.
     choose _ (ltb a 0xC000) _ _ (λ t. window-written w n a v q (ltb-false a 0x8000 u4) (omega (arith, ltb-true a 0xC000 t))) (λ u5.
-    choose _ (ltb a 0xC800) _ _ (λ t. rw (c000-slot w n a v q) (window-written w n a v q (ltb-false a 0x8000 u4) (omega (arith, ltb-true a 0xC800 t)))) (λ u6.
-    choose _ (ltb a 0xE000) _ _ (λ t. rw (c800-slot w n a v q) (window-written w n a v q (ltb-false a 0x8000 u4) (ltb-true a 0xE000 t))) (λ u7.
+    choose _ (ltb a 0xC800) _ _ (λ t. rw (c000-slot w n a v q)
+    (window-written w n a v q (ltb-false a 0x8000 u4) (omega (arith, ltb-true a 0xC800 t)))) (λ u6.
+    choose _ (ltb a 0xE000) _ _ (λ t. rw (c800-slot w n a v q)
+    (window-written w n a v q (ltb-false a 0x8000 u4) (ltb-true a 0xE000 t))) (λ u7.
     choose _ (ltb a 0xE800) _ _ (λ t. e000-written w n a v q (ltb-false a 0xE000 u7) (ltb-true a 0xE800 t)) (λ u8.
-    choose _ (ltb a 0xF000) _ _ (λ t. let z = s (ltb-false a 0xE800 u8) (ltb-true a 0xF000 t) in e800-written w n a v q (ltb-false a 0xE800 u8) (ltb-true a 0xF000 t) (z .0) (z .1)) (λ u9.
+    choose _ (ltb a 0xF000) _ _ (λ t. let z = s (ltb-false a 0xE800 u8) (ltb-true a 0xF000 t) in e800-written w n a v q
+    (ltb-false a 0xE800 u8) (ltb-true a 0xF000 t) (z .0) (z .1)) (λ u9.
     choose _ (ltb a 0xF800) _ _ (λ t. f000-written w n a v q (ltb-false a 0xF000 u9) (ltb-true a 0xF800 t)) (λ u10.
     rw (wiki-above w a v (ltb-false a 0xF800 u10)) (f800-written w n a v q (ltb-false a 0xF800 u10)))))))))))))
 
-pub writes-agree : (writes : List (ℕ × ℕ)) (w : WikiRegs) (n : Namco163) → Beside w n → Steady w writes → Beside (wikiWrites w writes) (chipWrites n writes)
+pub writes-agree : (writes : List (ℕ × ℕ)) (w : WikiRegs) (n : Namco163) → Beside w n → Steady w writes → Beside
+    (wikiWrites w writes) (chipWrites n writes)
 unfolding wikiWrites chipWrites
 writes-agree [] w n q s = q
-writes-agree ((a, v) ∷ writes) w n q s = writes-agree writes (wikiWrite w a v) (writeChip n a v) (write-agrees w n a v q (s .0)) (s .1)
+writes-agree ((a, v) ∷ writes) w n q s =
+    writes-agree writes (wikiWrite w a v) (writeChip n a v) (write-agrees w n a v q (s .0)) (s .1)
 
 -- departure: the select bits act when a slot is written. 8000 = E1 and then E800 = 40: the wiki's window 0 shows CHR page E1, the board's still nametable RAM
-pub select-departs : (wikiShows (wikiWrites (record { windows = replicate 12 0; pages = replicate 3 0 }) ((0x8000, 0xE1) ∷ (0xE800, 0x40) ∷ [])) 0 ≡ chrPage 0xE1)
+pub select-departs : (wikiShows
+    (wikiWrites (record { windows = replicate 12 0; pages = replicate 3 0 }) ((0x8000, 0xE1) ∷ (0xE800, 0x40) ∷ [])) 0
+    ≡ chrPage 0xE1)
     × (slotShows (chipWrites (chipAtLoad 19 0 0 true) ((0x8000, 0xE1) ∷ (0xE800, 0x40) ∷ [])) 0 ≡ nametable 1)
 unfolding wikiWrites wikiWrite wikiSelects wikiAllowed chipWrites writeChip writeSlot setsCiram writeE800 chipAtLoad boardAtLoad
 select-departs = (refl, refl)
 
 -- the fresh 163 of the database stands beside wiki registers that are all 0
-pub fresh-beside : (sub flags : ℕ) → Beside (record { windows = replicate 12 0; pages = replicate 3 0 }) (chipAtLoad 19 sub flags true)
+pub fresh-beside : (sub flags : ℕ) → Beside (record { windows = replicate 12 0; pages = replicate 3 0 })
+    (chipAtLoad 19 sub flags true)
 unfolding chipAtLoad boardAtLoad detectingAtLoad wikiSelects
 fresh-beside sub flags =
     record {
@@ -426,7 +474,18 @@ enable-set : (n : Namco163) (a v : ℕ) → n .«auto_detect_board» ≡ false �
     → writeChip n a v ≡ withRegs n (withProtect (n .regs) v)
 unfolding writeChip writeC000 writeC800 writeNametable
 enable-set n a v s b l h =
-    rw (le-ltb a 0x4800 (omega arith), le-ltb a 0x5000 (omega arith), le-ltb a 0x5800 (omega arith), le-ltb a 0x6000 (omega arith), le-ltb a 0x8000 (omega arith), le-ltb a 0xC000 l, lt-ltb a 0xE000 h, settled n Namco175 s, settled n Is163 s, b)
+    rw (
+      le-ltb a 0x4800 (omega arith),
+      le-ltb a 0x5000 (omega arith),
+      le-ltb a 0x5800 (omega arith),
+      le-ltb a 0x6000 (omega arith),
+      le-ltb a 0x8000 (omega arith),
+      le-ltb a 0xC000 l,
+      lt-ltb a 0xE000 h,
+      settled n Namco175 s,
+      settled n Is163 s,
+      b,
+    )
     (go (ltb a 0xC800))
   where
     go : {m : Namco163} (t : Bool) → cond t m m ≡ m

@@ -33,19 +33,20 @@ cast-i c = omega arith
 element-copy-out-slot-region : tie.Need-element-copy-out-slot-region Inv-loop μ-loop
 element-copy-out-slot-region c = omega arith
 
-slot-region-requires : tie.Need-slot-region-requires Inv-loop μ-loop
-slot-region-requires c κs = search needs
-
 element-copy-out-slot-pages : tie.Need-element-copy-out-slot-pages Inv-loop μ-loop
 element-copy-out-slot-pages c = omega arith
 
 slot-pages-requires : tie.Need-slot-pages-requires Inv-loop μ-loop
 slot-pages-requires c κs =
-    let flag = getD (c .before .before .before .before .before .before .before .before .before .args .t1 .«nt_bank_enable») (c .before .before .before .before .loop .slot) false in
-    let chr = c .before .before .before .before .before .before .before .region in
-    let nametables = c .before .before .before .before .before .before .region2 in
-    let r = c .before .slot-region in
-    (region-small flag (chr .result) (nametables .result) (r .result) (r .ensures) (chr .ensures .1) (nametables .ensures .1), omega arith)
+    let c1 = c .before in let c4 = c1 .before .before .before in let c6 = c4 .before .before in let c7 = c6 .before in
+    let c9 = c7 .before .before in
+    let flag = getD (c9 .args .t1 .«nt_bank_enable») (c4 .loop .slot) false in
+    let chr = c7 .region in
+    let nametables = c6 .region2 in
+    let r = c1 .slot-region in (
+      region-small flag (chr .result) (nametables .result) (r .result) (r .ensures) (chr .ensures .1) (nametables .ensures .1),
+      omega arith,
+    )
 
 add-slot : tie.Need-add-slot Inv-loop μ-loop
 add-slot c = omega arith
@@ -55,15 +56,20 @@ loop-less c = omega arith
 
 loop-again : tie.Need-loop-again Inv-loop μ-loop
 loop-again c =
-    let a = c .before .before .before .before .before .before .before .before .before .before .args in
-    let l = c .before .before .before .before .before .loop in (
+    let c2 = c .before .before in let c5 = c2 .before .before .before in let c7 = c5 .before .before in
+    let c8 = c7 .before in let c10 = c8 .before .before in
+    let a = c10 .args in
+    let l = c5 .loop in (
       omega arith,
       rw (c .slot-pages .ensures .0)
-          (slot-more (a .t1) (l .slot) (a .m) (l .pages) _ _ _ (c .before .before .before .before .before .before .before .before .region .ensures .0) (c .before .before .before .before .before .before .before .region2 .ensures .0) (c .before .before .slot-region .ensures) (l .inv .1)),
+          (slot-more (a .t1) (l .slot) (a .m) (l .pages) _ _ _ (c8 .region .ensures .0) (c7 .region2 .ensures .0)
+          (c2 .slot-region .ensures) (l .inv .1)),
     )
 
 returns : tie.Need-returns Inv-loop μ-loop
-returns c = let e : c .before .loop .slot ≡ c .before .before .before .before .before .before .args .n = omega arith in rw e at (c .before .loop .inv .1)
+returns c =
+    let c1 = c .before in let c6 = c1 .before .before .before .before .before in
+    let e : c1 .loop .slot ≡ c6 .args .n = omega arith in rw e at (c1 .loop .inv .1)
 
 pub map-slots-spec : {M : Type 1} → statement M
 map-slots-spec =
@@ -76,7 +82,7 @@ map-slots-spec =
     loop-holds
     cast-i
     element-copy-out-slot-region
-    slot-region-requires
+    (λ c κs. search needs)  -- slot-region-requires
     element-copy-out-slot-pages
     slot-pages-requires
     add-slot

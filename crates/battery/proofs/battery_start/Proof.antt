@@ -3,11 +3,8 @@ use borrow.Author.Needs.{needs}
 use Rattle.battery.proofs.battery_start.Statement.{statement}
 use Rattle.battery.proofs.battery_start.Tie as tie
 
-region-requires : tie.Need-region-requires
-region-requires c κs = search needs
-
 returns : tie.Need-returns
 returns c = rw (c .region .ensures .0)
 
 pub battery-start-spec : {M : Type 1} → statement M
-battery-start-spec = tie.close (tie.spec region-requires returns)
+battery-start-spec = tie.close (tie.spec (λ c κs. search needs) returns)

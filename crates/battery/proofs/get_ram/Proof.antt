@@ -29,10 +29,20 @@ loop-less : tie.Need-loop-less Inv-loop μ-loop
 loop-less c = omega arith
 
 loop-again : tie.Need-loop-again Inv-loop μ-loop
-loop-again c = let l = c .before .before .loop in (omega arith, copy-more (l .ram) (c .before .before .before .args .part .now) (l .i) (omega arith) (omega arith) (l .inv .1), length-set (l .ram) _ _ ∙ l .inv .2)
+loop-again c =
+    let c2 = c .before .before in let c3 = c2 .before in
+    let l = c2 .loop in (
+      omega arith,
+      copy-more (l .ram) (c3 .args .part .now) (l .i) (omega arith) (omega arith) (l .inv .1),
+      length-set (l .ram) _ _
+          ∙ l .inv .2,
+    )
 
 returns : tie.Need-returns Inv-loop μ-loop
-returns c = let l = c .before .loop in let e : l .i ≡ 128 = omega arith in copy-all (l .ram) (c .before .before .args .part .now) 128 (l .inv .2) (c .before .before .pre) (rw e at (l .inv .1))
+returns c =
+    let c1 = c .before in let c2 = c1 .before in
+    let l = c1 .loop in let e : l .i ≡ 128 = omega arith in
+    copy-all (l .ram) (c2 .args .part .now) 128 (l .inv .2) (c2 .pre) (rw e at (l .inv .1))
 
 pub get-ram-spec : {M : Type 1} → statement M
 get-ram-spec =

@@ -30,13 +30,23 @@ loop-less : tie.Need-loop-less Inv-loop μ-loop
 loop-less c = omega arith
 
 loop-again : tie.Need-loop-again Inv-loop μ-loop
-loop-again c = let l = c .before .loop in let t = typed (c .before .before .before .args .audio) _ (c .before .before .before .good .1 .0) in (omega arith, copy-more (l .part) (c .before .before .before .args .audio .ram) (l .i) (omega arith) (omega (arith, t .«ram-length»)) (l .inv .1), length-set (l .part) _ _ ∙ l .inv .2)
+loop-again c =
+    let c1 = c .before in let c3 = c1 .before .before in
+    let l = c1 .loop in let t = typed (c3 .args .audio) _ (c3 .good .1 .0) in (
+      omega arith,
+      copy-more (l .part) (c3 .args .audio .ram) (l .i) (omega arith) (omega (arith, t .«ram-length»)) (l .inv .1),
+      length-set (l .part) _ _ ∙ l .inv .2,
+    )
 
 same-length : tie.Need-same-length Inv-loop μ-loop
 same-length c = omega arith
 
 returns : tie.Need-returns Inv-loop μ-loop
-returns c = let l = c .before .loop in let e : l .i ≡ 128 = omega arith in copy-all (l .part) (c .before .before .before .args .audio .ram) 128 (l .inv .2) (typed (c .before .before .before .args .audio) _ (c .before .before .before .good .1 .0) .«ram-length») (rw e at (l .inv .1))
+returns c =
+    let c1 = c .before in let c3 = c1 .before .before in
+    let l = c1 .loop in let e : l .i ≡ 128 = omega arith in
+    copy-all (l .part) (c3 .args .audio .ram) 128 (l .inv .2) (typed (c3 .args .audio) _ (c3 .good .1 .0) .«ram-length»)
+    (rw e at (l .inv .1))
 
 pub put-ram-spec : {M : Type 1} → statement M
 put-ram-spec =

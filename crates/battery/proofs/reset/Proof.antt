@@ -6,23 +6,15 @@ use Rattle.battery.specs.Battery.{resetState}
 use Rattle.battery.proofs.reset.Statement.{statement}
 use Rattle.battery.proofs.reset.Tie as tie
 
-reset-refusal-requires : tie.Need-reset-refusal-requires
-reset-refusal-requires c κs = search needs
-
 returns : tie.Need-returns
 unfolding resetState
 returns c = rw (← c .before .reset-refusal .ensures, ne-eqb _ _ (c .if1 .taken))
 
-kind-of-requires : tie.Need-kind-of-requires
-kind-of-requires c κs = search needs
-
-reset-requires : tie.Need-reset-requires
-reset-requires c κs = search needs
-
 returns-2 : tie.Need-returns-2
 unfolding resetState
-returns-2 c = rw (sym (c .before .before .before .before .reset-refusal .ensures) ∙ c .before .before .before .if1 .left, c .reset .ensures, c .before .kind-of .ensures)
+returns-2 c =
+    let c1 = c .before in let c3 = c1 .before .before in let c4 = c3 .before in
+    rw (sym (c4 .reset-refusal .ensures) ∙ c3 .if1 .left, c .reset .ensures, c1 .kind-of .ensures)
 
 pub reset-spec : {M : Type 1} → statement M
-reset-spec =
-    tie.close (tie.spec reset-refusal-requires returns kind-of-requires reset-requires returns-2)
+reset-spec = tie.close (tie.spec (λ c κs. search needs) returns (λ c κs. search needs) (λ c κs. search needs) returns-2)

@@ -32,7 +32,8 @@ regroup : (a p m x r : ℕ) → (a * p + x) * m + r ≡ a * (p * m) + (x * m + r
 regroup a p m x r = omega arith
 
 -- what a write leaves: the bytes before, those stored and the bits held
-pub put-bits : (img img′ : List ℕ) (at n held width v k m acc : ℕ) → k * 8 + m ≡ n + width → at + k ≤ length img → held < 2 ^ n → v < 2 ^ width
+pub put-bits : (img img′ : List ℕ) (at n held width v k m acc : ℕ) → k * 8 + m ≡ n + width → at + k ≤ length img → held < 2 ^ n
+    → v < 2 ^ width
     → acc ≡ held * 2 ^ width + v → img′ ≡ paste img at (unpack (eights k) (acc / 2 ^ m)) k
     → wordOf (take (at + k) img′) * 2 ^ m + acc % 2 ^ m ≡ (wordOf (take at img) * 2 ^ n + held) * 2 ^ width + v
 put-bits img img′ at n held width v k m acc e room hh hv ea ei =
@@ -43,10 +44,12 @@ put-bits img img′ at n held width v k m acc e room hh hv ea ei =
     ∙ ap (λ (l : List ℕ). take at img ++ l) (take-all k bs (rw length-bytes (le-refl k))) in
     let bytes : wordOf (take (at + k) img′) ≡ wordOf (take at img) * 2 ^ (k * 8) + acc / 2 ^ m =
     ap wordOf front ∙ word-append (take at img) bs ∙
-    ap₂ (λ (l x : ℕ). wordOf (take at img) * 2 ^ (l * 8) + x) (length-bytes k (acc / 2 ^ m)) (word-of-bytes k (acc / 2 ^ m) (shr-lt (k * 8) m small)) in
+    ap₂ (λ (l x : ℕ). wordOf (take at img) * 2 ^ (l * 8) + x) (length-bytes k (acc / 2 ^ m))
+    (word-of-bytes k (acc / 2 ^ m) (shr-lt (k * 8) m small)) in
     ap (λ (x : ℕ). x * 2 ^ m + acc % 2 ^ m) bytes
     ∙ regroup (wordOf (take at img)) (2 ^ (k * 8)) (2 ^ m) (acc / 2 ^ m) (acc % 2 ^ m)
-    ∙ ap₂ (λ (p x : ℕ). wordOf (take at img) * p + x) (sym (pow-add 2 (k * 8) m) ∙ ap (λ (x : ℕ). 2 ^ x) e ∙ pow-add 2 n width) (split acc m ∙ ea)
+    ∙ ap₂ (λ (p x : ℕ). wordOf (take at img) * p + x) (sym (pow-add 2 (k * 8) m) ∙ ap (λ (x : ℕ). 2 ^ x) e ∙ pow-add 2 n width)
+    (split acc m ∙ ea)
     ∙ sym (regroup (wordOf (take at img)) (2 ^ n) (2 ^ width) held v)
 
 -- what a read takes: its bits stand behind those passed, and those then held behind these
@@ -68,7 +71,8 @@ get-bits img at n held width k m acc e room eh ea =
     (sym ea ∙ sym (split acc m))
     ∙ sym (regroup q (2 ^ width) (2 ^ m) (acc / 2 ^ m) (acc % 2 ^ m))
 
-pub got-lt : (held n width k m acc : ℕ) → m + width ≡ n + k * 8 → held < 2 ^ n → acc < (held + 1) * 2 ^ (k * 8) → acc / 2 ^ m < 2 ^ width
+pub got-lt : (held n width k m acc : ℕ) → m + width ≡ n + k * 8 → held < 2 ^ n → acc < (held + 1) * 2 ^ (k * 8)
+    → acc / 2 ^ m < 2 ^ width
 got-lt held n width k m acc e h l =
     shr-lt width m (rw (add-comm width m, e, pow-add 2 n (k * 8)) (lt-of-lt-of-le l (mul-le-mul-right (2 ^ (k * 8)) (omega arith))))
 
@@ -84,7 +88,8 @@ rest-later i j a b h e =
     let k : i + (j - i) ≡ j = omega arith in
     rw (← k, ← drop-drop (j - i) i b, ← drop-drop (j - i) i a, e)
 
-pub wrote-append : (a b c : List ℕ) (u v w : Cursor) (ws vs us xs : List ℕ) → length ws ≡ length vs → Wrote a b u v ws vs → Wrote b c v w us xs → Wrote a c u w (ws ++ us) (vs ++ xs)
+pub wrote-append : (a b c : List ℕ) (u v w : Cursor) (ws vs us xs : List ℕ) → length ws ≡ length vs → Wrote a b u v ws vs
+    → Wrote b c v w us xs → Wrote a c u w (ws ++ us) (vs ++ xs)
 wrote-append a b c u v w ws vs us xs e p q = record {
   held = q .held;
   pos = omega (arith, total-append ws us, p .pos, q .pos);
@@ -97,7 +102,8 @@ pub read-none : (img : List ℕ) (r : Cursor) → Behind img r → Read img r r 
 unfolding after total pack
 read-none img r h = record { behind = h; pos = omega arith; fit = tt; bits = omega arith }
 
-pub read-append : (img : List ℕ) (p q r : Cursor) (ws vs us xs : List ℕ) → Read img p q ws vs → Read img q r us xs → Read img p r (ws ++ us) (vs ++ xs)
+pub read-append : (img : List ℕ) (p q r : Cursor) (ws vs us xs : List ℕ) → Read img p q ws vs → Read img q r us xs → Read img p r
+    (ws ++ us) (vs ++ xs)
 read-append img p q r ws vs us xs f g = record {
   behind = g .behind;
   pos = omega (arith, total-append ws us, f .pos, g .pos);
@@ -122,17 +128,28 @@ read-suc img p q r width xs i v h f g =
 
 -- ---- several fields in one word
 
-pub wrote-word : (a b : List ℕ) (u v : Cursor) (ws vs : List ℕ) → Wrote a b u v (total ws ∷ []) (pack ws vs ∷ []) → Wrote a b u v ws vs
+pub wrote-word : (a b : List ℕ) (u v : Cursor) (ws vs : List ℕ) → Wrote a b u v (total ws ∷ []) (pack ws vs ∷ [])
+    → Wrote a b u v ws vs
 unfolding total
-wrote-word a b u v ws vs p = record { held = p .held; pos = omega (arith, p .pos); bits = p .bits ∙ after-word (bitsWritten a u) ws vs; rest = p .rest; len = p .len }
+wrote-word a b u v ws vs p =
+    record {
+      held = p .held;
+      pos = omega (arith, p .pos);
+      bits = p .bits
+          ∙ after-word (bitsWritten a u) ws vs;
+      rest = p .rest;
+      len = p .len;
+    }
 
-pub read-word : (img : List ℕ) (p q : Cursor) (ws : List ℕ) (v : ℕ) → Read img p q (total ws ∷ []) (v ∷ []) → Read img p q ws (unpack ws v)
+pub read-word : (img : List ℕ) (p q : Cursor) (ws : List ℕ) (v : ℕ) → Read img p q (total ws ∷ []) (v ∷ []) → Read img p q ws
+    (unpack ws v)
 unfolding total
 read-word img p q ws v f = record {
   behind = f .behind;
   pos = omega (arith, f .pos);
   fit = fit-unpack ws v;
-  bits = f .bits ∙ ap (λ (x : ℕ). after (bitsRead img p) (total ws ∷ []) (x ∷ [])) (sym (pack-unpack ws v (f .fit .0))) ∙ after-word (bitsRead img p) ws (unpack ws v);
+  bits = f .bits ∙ ap (λ (x : ℕ). after (bitsRead img p) (total ws ∷ []) (x ∷ [])) (sym (pack-unpack ws v (f .fit .0)))
+      ∙ after-word (bitsRead img p) ws (unpack ws v);
 }
 
 -- ---- the fields of each element of an array
@@ -146,7 +163,8 @@ module _ {A : Type 0} (f : A → List ℕ) (ws : List ℕ) (d : A) (h : (x : A) 
       (wrote-append a b c u v w (times i ws) (each f (take i xs)) ws (f (getD xs i d))
       (times-each f ws h i (take i xs) (length-take-le i xs (omega arith))) p q)
 
-pub read-each : {A : Type 0} (f : A → List ℕ) (ws : List ℕ) (img : List ℕ) (p q r : Cursor) (xs : List A) (i : ℕ) (x : A) → i < length xs
+pub read-each : {A : Type 0} (f : A → List ℕ) (ws : List ℕ) (img : List ℕ) (p q r : Cursor) (xs : List A) (i : ℕ) (x : A)
+    → i < length xs
     → Read img p q (times i ws) (each f (take i xs)) → Read img q r ws (f x)
     → Read img p r (times (i + 1) ws) (each f (take (i + 1) (set xs i x)))
 read-each f ws img p q r xs i x l g k =
@@ -195,7 +213,8 @@ read-all img r h e =
     rw (n0, a0, take-length img) (div-one (wordOf img))
 
 -- what was read of a whole image is its fields
-pub finish-read : (img : List ℕ) (r : Cursor) (ws vs : List ℕ) → Read img start r ws vs → total ws ≡ length img * 8 → unpack ws (wordOf img) ≡ vs
+pub finish-read : (img : List ℕ) (r : Cursor) (ws vs : List ℕ) → Read img start r ws vs → total ws ≡ length img * 8 → unpack ws
+    (wordOf img) ≡ vs
 unfolding after
 finish-read img r ws vs p e =
     let whole : wordOf img ≡ pack ws vs =
@@ -205,7 +224,8 @@ finish-read img r ws vs p e =
 -- ---- whole bytes
 
 pub bytes-wrote : (img img′ : List ℕ) (w w′ : Cursor) (xs : List ℕ) → w .n ≡ 0 → w .acc ≡ 0 → w .at + length xs ≤ length img
-    → img′ ≡ paste img (w .at) xs (length xs) → w′ .n ≡ 0 → w′ .acc ≡ 0 → w′ .at ≡ w .at + length xs → Wrote img img′ w w′ (eights (length xs)) xs
+    → img′ ≡ paste img (w .at) xs (length xs) → w′ .n ≡ 0 → w′ .acc ≡ 0 → w′ .at ≡ w .at + length xs → Wrote img img′ w w′
+    (eights (length xs)) xs
 unfolding bitsWritten after
 bytes-wrote img img′ w w′ xs n a l e n′ a′ t = record {
   held = record { few = omega arith; small = rw (n′, a′) (omega arith) };
@@ -213,20 +233,24 @@ bytes-wrote img img′ w w′ xs n a l e n′ a′ t = record {
   bits =
       rw (n′, a′, n, a, t)
       (ap (λ (x : ℕ). x * 2 ^ 0 + 0)
-      (ap wordOf (ap (take (w .at + length xs)) e ∙ take-paste img (w .at) xs (length xs) (omega arith) (le-refl (length xs)) ∙ ap (λ (r : List ℕ). take (w .at) img ++ r) (take-length xs))
+      (ap wordOf (ap (take (w .at + length xs)) e ∙ take-paste img (w .at) xs (length xs) (omega arith) (le-refl (length xs))
+      ∙ ap (λ (r : List ℕ). take (w .at) img ++ r) (take-length xs))
       ∙ word-append (take (w .at) img) xs)
       ∙ rw total-eights (omega arith));
   rest = rw (t, e) (drop-paste img (w .at) xs (length xs) (omega arith) (le-refl (length xs)));
   len = ap length e ∙ length-paste img (w .at) xs (length xs) l (le-refl (length xs));
 }
 
-pub bytes-read : (img : List ℕ) (r r′ : Cursor) (xs : List ℕ) (k : ℕ) → r .n ≡ 0 → r .acc ≡ 0 → r .at + k ≤ length img → ((i : ℕ) → getD img i 0 < 2 ^ 8)
+pub bytes-read : (img : List ℕ) (r r′ : Cursor) (xs : List ℕ) (k : ℕ) → r .n ≡ 0 → r .acc ≡ 0 → r .at + k ≤ length img
+    → ((i : ℕ) → getD img i 0 < 2 ^ 8)
     → xs ≡ take k (drop (r .at) img) → r′ .n ≡ 0 → r′ .acc ≡ 0 → r′ .at ≡ r .at + k → Read img r r′ (eights k) xs
 unfolding bitsRead after
 bytes-read img r r′ xs k n a l b e n′ a′ t =
     let lx : length xs ≡ k = ap length e ∙ length-take-le k (drop (r .at) img) (rw length-drop (omega arith)) in
     let small : (i : ℕ) → getD xs i 0 < 2 ^ 8 =
-    λ i. subst (λ (ys : List ℕ). getD ys i 0 < 2 ^ 8) (sym e) (holds-take (λ x. x < 2 ^ 8) k (drop (r .at) img) 0 (omega arith) (λ j. rw (getD-drop (r .at) img j 0) (b (r .at + j))) i) in
+    λ i. subst (λ (ys : List ℕ). getD ys i 0 < 2 ^ 8) (sym e)
+    (holds-take (λ x. x < 2 ^ 8) k (drop (r .at) img) 0 (omega arith)
+    (λ j. rw (getD-drop (r .at) img j 0) (b (r .at + j))) i) in
     record {
       behind = record { few = omega arith; inside = omega arith; last = rw (n′, a′) (sym (mod-one (wordOf (take (r′ .at) img)))) };
       pos = omega (arith, total-eights k);
@@ -237,5 +261,6 @@ bytes-read img r r′ xs k n a l b e n′ a′ t =
           ∙ ap wordOf (take-add (r .at) k img ∙ ap (λ (y : List ℕ). take (r .at) img ++ y) (sym e))
           ∙ word-append (take (r .at) img) xs
           ∙ ap₂ (λ (m y : ℕ). y * 2 ^ (m * 8) + wordOf xs) lx (sym (div-one (wordOf (take (r .at) img))))
-          ∙ ap₂ (λ (m y : ℕ). wordOf (take (r .at) img) / 1 * 2 ^ m + y) (sym (total-eights k)) (ap (λ (m : ℕ). pack (eights m) xs) lx));
+          ∙ ap₂ (λ (m y : ℕ). wordOf (take (r .at) img) / 1 * 2 ^ m + y) (sym (total-eights k))
+          (ap (λ (m : ℕ). pack (eights m) xs) lx));
     }

@@ -56,7 +56,13 @@ pub load-suc : (acc a : ℕ) (img : List ℕ) (at j : ℕ) → at + j < length i
     → a * 256 + getD img (at + j) 0 ≡ acc * 2 ^ ((j + 1) * 8) + wordOf (take (j + 1) (drop at img))
 load-suc acc a img at j h e =
     let l : j < length (drop at img) = omega (arith, length-drop at img) in
-    rw (pow8 j, add-one j, take-suc (drop at img) j 0 l, word-snoc (take j (drop at img)) (getD (drop at img) j 0), getD-drop at img j 0) (omega arith)
+    rw (
+      pow8 j,
+      add-one j,
+      take-suc (drop at img) j 0 l,
+      word-snoc (take j (drop at img)) (getD (drop at img) j 0),
+      getD-drop at img j 0,
+    ) (omega arith)
 
 pub load-small : (acc a b j : ℕ) → a < (acc + 1) * 2 ^ (j * 8) → b < 256 → a * 256 + b < (acc + 1) * 2 ^ ((j + 1) * 8)
 load-small acc a b j h l = rw pow8 (omega arith)

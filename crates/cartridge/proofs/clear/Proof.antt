@@ -26,13 +26,18 @@ loop-less : tie.Need-loop-less Inv-loop μ-loop
 loop-less c = omega arith
 
 loop-again : tie.Need-loop-again Inv-loop μ-loop
-loop-again c = let l = c .before .loop in (rw length-set (omega arith), clear-more (l .arena) (l .i) (omega arith) (l .inv .1), length-set (l .arena) _ _ ∙ l .inv .2)
+loop-again c =
+    let l = c .before .loop in
+    (rw length-set (omega arith), clear-more (l .arena) (l .i) (omega arith) (l .inv .1), length-set (l .arena) _ _ ∙ l .inv .2)
 
 same-length : tie.Need-same-length Inv-loop μ-loop
 same-length c = omega arith
 
 returns : tie.Need-returns Inv-loop μ-loop
-returns c = let l = c .before .loop in let e : l .i ≡ length (c .before .before .args .arena .now) = omega arith in clear-all (l .arena) (length (c .before .before .args .arena .now)) (l .inv .2) (rw e at (l .inv .1))
+returns c =
+    let c1 = c .before in let c2 = c1 .before in
+    let l = c1 .loop in let e : l .i ≡ length (c2 .args .arena .now) = omega arith in
+    clear-all (l .arena) (length (c2 .args .arena .now)) (l .inv .2) (rw e at (l .inv .1))
 
 pub clear-spec : {M : Type 1} → statement M
 clear-spec =

@@ -5,12 +5,6 @@ use Rattle.cartridge.proofs.Laws.{sized-load}
 use Rattle.cartridge.proofs.fresh_state.Statement.{statement}
 use Rattle.cartridge.proofs.fresh_state.Tie as tie
 
-load-requires : tie.Need-load-requires
-load-requires c κs = search needs
-
-memory-at-load-requires : tie.Need-memory-at-load-requires
-memory-at-load-requires c κs = search needs
-
 update-banks-requires : tie.Need-update-banks-requires
 update-banks-requires c κs = rw (c .memory-at-load .ensures) (sized-load _ _ (c .before .before .pre))
 
@@ -19,5 +13,4 @@ unfolding freshState
 returns c = rw (c .update-banks .ensures, c .before .memory-at-load .ensures, c .before .before .load .ensures)
 
 pub fresh-state-spec : {M : Type 1} → statement M
-fresh-state-spec =
-    tie.close (tie.spec load-requires memory-at-load-requires update-banks-requires returns)
+fresh-state-spec = tie.close (tie.spec (λ c κs. search needs) (λ c κs. search needs) update-banks-requires returns)

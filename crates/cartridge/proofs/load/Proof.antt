@@ -9,41 +9,44 @@ use Rattle.cartridge.proofs.Laws.{load-good}
 use Rattle.cartridge.proofs.load.Statement.{statement}
 use Rattle.cartridge.proofs.load.Tie as tie
 
-load-refusal-requires : tie.Need-load-refusal-requires
-load-refusal-requires c κs = search needs
-
-no-state-requires : tie.Need-no-state-requires
-no-state-requires c κs = search needs
-
 returns : tie.Need-returns
 unfolding loadAnswer loadArena
-returns c = (rw (← c .before .before .load-refusal .ensures, ne-eqb _ _ (c .before .if1 .taken), c .no-state .ensures), rw (← c .before .before .load-refusal .ensures, ne-eqb _ _ (c .before .if1 .taken)))
-
-clear-requires : tie.Need-clear-requires
-clear-requires c κs = search needs
+returns c =
+    let c1 = c .before in let c2 = c1 .before in (
+      rw (← c2 .load-refusal .ensures, ne-eqb _ _ (c1 .if1 .taken), c .no-state .ensures),
+      rw (← c2 .load-refusal .ensures, ne-eqb _ _ (c1 .if1 .taken)),
+    )
 
 cast-fresh-state : tie.Need-cast-fresh-state
-cast-fresh-state c = omega (arith, (let a = c .before .before .before .before .before .before .before .args in load-good (a .mapper) (a .sizes) (length (a .arena .now)) (sym (c .before .before .before .before .before .load-refusal .ensures) ∙ c .before .before .before .before .if1 .left)) .small)
+cast-fresh-state c =
+    let c4 = c .before .before .before .before in let c5 = c4 .before in let c7 = c5 .before .before in
+    omega (
+      arith,
+      (let a = c7 .args in load-good (a .mapper) (a .sizes) (length (a .arena .now))
+          (sym (c5 .load-refusal .ensures) ∙ c4 .if1 .left)) .small,
+    )
 
 fresh-state-requires : tie.Need-fresh-state-requires
-fresh-state-requires c κs = (let a = c .before .before .before .before .before .before .before .args in load-good (a .mapper) (a .sizes) (length (a .arena .now)) (sym (c .before .before .before .before .before .load-refusal .ensures) ∙ c .before .before .before .before .if1 .left)) .fits
-
-same-length : tie.Need-same-length
-same-length c = search needs
+fresh-state-requires c κs =
+    let c4 = c .before .before .before .before in let c5 = c4 .before in let c7 = c5 .before .before in
+    (let a = c7 .args in load-good (a .mapper) (a .sizes) (length (a .arena .now))
+    (sym (c5 .load-refusal .ensures) ∙ c4 .if1 .left)) .fits
 
 returns-2 : tie.Need-returns-2
 unfolding loadAnswer loadArena
-returns-2 c = let e = sym (c .before .before .before .before .before .before .load-refusal .ensures) ∙ c .before .before .before .before .before .if1 .left in (rw (e, c .fresh-state .ensures), rw e (c .before .before .before .clear .ensures))
+returns-2 c =
+    let c3 = c .before .before .before in let c5 = c3 .before .before in let c6 = c5 .before in
+    let e = sym (c6 .load-refusal .ensures) ∙ c5 .if1 .left in (rw (e, c .fresh-state .ensures), rw e (c3 .clear .ensures))
 
 pub load-spec : {M : Type 1} → statement M
 load-spec =
     tie.close
     (tie.spec
-    load-refusal-requires
-    no-state-requires
+    (λ c κs. search needs)  -- load-refusal-requires
+    (λ c κs. search needs)  -- no-state-requires
     returns
-    clear-requires
+    (λ c κs. search needs)  -- clear-requires
     cast-fresh-state
     fresh-state-requires
-    same-length
+    (λ c. search needs)  -- same-length
     returns-2)

@@ -5,9 +5,6 @@ use Rattle.cartridge.specs.Load.{memoryAtLoad}
 use Rattle.cartridge.proofs.memory_at_load.Statement.{statement}
 use Rattle.cartridge.proofs.memory_at_load.Tie as tie
 
-new-requires : tie.Need-new-requires
-new-requires c κs = search needs
-
 returns : tie.Need-returns
 unfolding memoryAtLoad
 returns c = rw (eq-eqb _ _ (c .if1 .taken), c .before .new .ensures .0)
@@ -17,4 +14,4 @@ unfolding memoryAtLoad
 returns-2 c = rw (ne-eqb _ _ (c .if1 .left), c .before .new .ensures .0)
 
 pub memory-at-load-spec : {M : Type 1} → statement M
-memory-at-load-spec = tie.close (tie.spec new-requires returns returns-2)
+memory-at-load-spec = tie.close (tie.spec (λ c κs. search needs) returns returns-2)

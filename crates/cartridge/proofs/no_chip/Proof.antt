@@ -4,15 +4,9 @@ use Rattle.cartridge.specs.Load.{noState}
 use Rattle.cartridge.proofs.no_chip.Statement.{statement}
 use Rattle.cartridge.proofs.no_chip.Tie as tie
 
-new-requires : tie.Need-new-requires
-new-requires c κs = search needs
-
-new-requires-2 : tie.Need-new-requires-2
-new-requires-2 c κs = search needs
-
 returns : tie.Need-returns
 unfolding noState
 returns c = rw (c .new2 .ensures, c .before .new .ensures)
 
 pub no-chip-spec : {M : Type 1} → statement M
-no-chip-spec = tie.close (tie.spec new-requires new-requires-2 returns)
+no-chip-spec = tie.close (tie.spec (λ c κs. search needs) (λ c κs. search needs) returns)

@@ -4,12 +4,9 @@ use Rattle.cartridge.specs.Load.{noState}
 use Rattle.cartridge.proofs.no_state.Statement.{statement}
 use Rattle.cartridge.proofs.no_state.Tie as tie
 
-no-chip-requires : tie.Need-no-chip-requires
-no-chip-requires c κs = search needs
-
 returns : tie.Need-returns
 unfolding noState
 returns c = rw (c .no-chip .ensures)
 
 pub no-state-spec : {M : Type 1} → statement M
-no-state-spec = tie.close (tie.spec no-chip-requires returns)
+no-state-spec = tie.close (tie.spec (λ c κs. search needs) returns)

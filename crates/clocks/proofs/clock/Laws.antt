@@ -111,5 +111,6 @@ pub run-top : (n d : ℕ) (r : Regs) → 0x8000 ≤ r .«irq_counter» → r .«
     → counterRun n r ≡ withCounter r 0xFFFF true
 run-top n d r l h k = ended n d r l h k .regs
 
-pub rise-top : (n d : ℕ) (r : Regs) → 0x8000 ≤ r .«irq_counter» → r .«irq_counter» + suc d ≡ 0xFFFF → suc d ≤ n → counterRise n r ≡ suc d
+pub rise-top : (n d : ℕ) (r : Regs) → 0x8000 ≤ r .«irq_counter» → r .«irq_counter» + suc d ≡ 0xFFFF → suc d ≤ n → counterRise n r
+    ≡ suc d
 rise-top n d r l h k = ended n d r l h k .rise

@@ -67,7 +67,8 @@ unfolding chipAfter chipClock counterRun
 chip-more true n c e = rw (e, run-more n (c .audio))
 chip-more false n c e = rw e
 
-chip-rise : (t : Bool) (n : ℕ) (c : Namco163) → chipClock (chipAfter t n c) .rise ≡ risesFrom (counterRun n (c .regs) .«irq_counter»)
+chip-rise : (t : Bool) (n : ℕ) (c : Namco163) → chipClock (chipAfter t n c) .rise ≡ risesFrom
+    (counterRun n (c .regs) .«irq_counter»)
 unfolding chipAfter chipClock
 chip-rise true n c = go (is163 (c .board)) refl
   where
@@ -123,7 +124,8 @@ pub sounds-state : (n : ℕ) (s : State) → is163 (s .chip .board) ≡ true
 unfolding chipAfter
 sounds-state n s e = after-state s true e n
 
-pub sounds-samples : (n : ℕ) (s : State) → is163 (s .chip .board) ≡ true → clocks n s .stretch .samples ≡ samplesOf n (s .chip .audio)
+pub sounds-samples : (n : ℕ) (s : State) → is163 (s .chip .board) ≡ true → clocks n s .stretch .samples ≡ samplesOf n
+    (s .chip .audio)
 unfolding samplesAfter
 sounds-samples n s e = after-samples s true e n
 
@@ -147,7 +149,8 @@ unfolding made
 made-floor n s u = go (is163 (s .chip .board)) refl
   where
     go : (t : Bool) → is163 (s .chip .board) ≡ t
-        → made n s ≡ cond (is163 (s .chip .board)) (cond (s .chip .audio .disabled) 0 ((s .chip .audio .«update_counter» + n) / 15)) 0
+        → made n s ≡ cond (is163 (s .chip .board))
+        (cond (s .chip .audio .disabled) 0 ((s .chip .audio .«update_counter» + n) / 15)) 0
     go true e = rw (sounds-samples n s e, e) (made-closed n (s .chip .audio) u)
     go false e = rw (silent-samples n s e, e)
 
@@ -176,7 +179,12 @@ pub run-good : (s : State) (n room : ℕ) → firstOf (runChecks s n room) ≡ 0
 unfolding made
 run-good s n room e =
     let h = accepted-none (runChecks s n room) (omega arith, (omega arith, (omega arith, tt))) e in
-    record { good = was-true (inRange s) (h .0); short = ltb-false 65536 n (h .1 .0); enough = ltb-false room (made n s) (h .1 .1 .0) }
+    record {
+      good = was-true (inRange s) (h .0);
+      short = ltb-false 65536 n (h .1 .0);
+      enough = ltb-false room (made n s)
+          (h .1 .1 .0);
+    }
 
 pub refused-run : (q : ℕ) (t : Point State Float) (lent : List Float) (s : State) → (q ≡ 0 → ⊥)
     → runBy q t lent s ≡ record { refusal = q; made = 0; rise = 0; samples = lent; state = s }

@@ -24,65 +24,56 @@ returns c =
     (loadGives (a .arena .now) (a .mapper) (a .submapper) (a .flags) (a .in-database) sizes) (c .if1 .taken) in
     (word-of e, (image-of e, lent-of e))
 
-load-requires : tie.Need-load-requires
-load-requires c κs = search needs
-
-cast-result : tie.Need-cast-result
-cast-result c = search needs
-
-same-length : tie.Need-same-length
-same-length c = search needs
-
 returns-2 : tie.Need-returns-2
 unfolding hostLoad
 returns-2 c =
-    let a = c .before .before .before .before .before .before .before .before .before .before .args in
+    let c1 = c .before in let c5 = c1 .before .before .before .before in let c7 = c5 .before .before in
+    let c10 = c7 .before .before .before in
+    let a = c10 .args in
     let img = a .image .now in
     let arena = a .arena .now in
     let sizes = sizesOf (a .prg-rom) (a .prg-ram) (a .battery) (a .chr) (a .chr-ram) (a .ciram) in
     let cs = loadChecks (a .mapper) sizes (length arena) in
-    let r = c .before .before .before .before .before .load in
-    let q = ap (λ (x : Loaded). x .refusal) (r .ensures .0) ∙ load-number (a .mapper) (a .submapper) (a .flags) (yes (a .in-database)) sizes (length arena) in
-    let h = c .before .if2 .taken in
+    let r = c5 .load in
+    let q = ap (λ (x : Loaded). x .refusal) (r .ensures .0)
+    ∙ load-number (a .mapper) (a .submapper) (a .flags) (yes (a .in-database)) sizes (length arena) in
+    let h = c1 .if2 .taken in
     let e =
-    call-refused (imageCheck (length img) ∷ cs) img arena (loadGives arena (a .mapper) (a .submapper) (a .flags) (a .in-database) sizes) (r .result .refusal)
-    (q ∙ is-307 img cs (c .before .before .before .before .before .before .before .if1 .left)) h in (
+    call-refused (imageCheck (length img) ∷ cs) img arena
+    (loadGives arena (a .mapper) (a .submapper) (a .flags) (a .in-database) sizes) (r .result .refusal)
+    (q ∙ is-307 img cs (c7 .if1 .left)) h in (
       word-of e,
       (
         image-of e,
-        r .ensures .1 ∙ load-refused (a .mapper) (a .submapper) (a .flags) (yes (a .in-database)) sizes arena (λ z. h (q ∙ z)) .1 ∙ lent-of e,
+        r .ensures .1 ∙ load-refused (a .mapper) (a .submapper) (a .flags) (yes (a .in-database)) sizes arena (λ z. h (q ∙ z)) .1
+            ∙ lent-of e,
       ),
     )
-
-write-image-requires : tie.Need-write-image-requires
-write-image-requires c κs = search needs
-
-same-length-2 : tie.Need-same-length-2
-same-length-2 c = search needs
-
-same-length-3 : tie.Need-same-length-3
-same-length-3 c = search needs
 
 returns-3 : tie.Need-returns-3
 unfolding hostLoad
 returns-3 c =
-    let a = c .before .before .before .before .before .before .before .before .before .before .before .before .before .before .args in
+    let c2 = c .before .before in let c5 = c2 .before .before .before in let c9 = c5 .before .before .before .before in
+    let c11 = c9 .before .before in let c14 = c11 .before .before .before in
+    let a = c14 .args in
     let img = a .image .now in
     let arena = a .arena .now in
     let known = yes (a .in-database) in
     let sizes = sizesOf (a .prg-rom) (a .prg-ram) (a .battery) (a .chr) (a .chr-ram) (a .ciram) in
     let cs = loadChecks (a .mapper) sizes (length arena) in
-    let r = c .before .before .before .before .before .before .before .before .before .load in
-    let q = ap (λ (x : Loaded). x .refusal) (r .ensures .0) ∙ load-number (a .mapper) (a .submapper) (a .flags) known sizes (length arena) in
-    let z = c .before .before .before .before .before .if2 .left in
-    let l = c .before .before .before .before .before .before .before .before .before .before .before .if1 .left in
+    let r = c9 .load in
+    let q = ap (λ (x : Loaded). x .refusal) (r .ensures .0)
+    ∙ load-number (a .mapper) (a .submapper) (a .flags) known sizes (length arena) in
+    let z = c5 .if2 .left in
+    let l = c11 .if1 .left in
     let e =
-    call-accepted (imageCheck (length img) ∷ cs) img arena (loadGives arena (a .mapper) (a .submapper) (a .flags) (a .in-database) sizes) (r .result .refusal)
+    call-accepted (imageCheck (length img) ∷ cs) img arena
+    (loadGives arena (a .mapper) (a .submapper) (a .flags) (a .in-database) sizes) (r .result .refusal)
     (q ∙ is-307 img cs l) z in
     let f = load-fits (a .mapper) (a .submapper) (a .flags) known sizes arena (sym q ∙ z) in (
       word-of e,
       (
-        c .before .before .write-image .ensures .1
+        c2 .write-image .ensures .1
             ∙ ap (λ (x : Loaded). writtenImage (x .state) img) (r .ensures .0)
             ∙ ap (λ x. writtenImage x img) (load-state (a .mapper) (a .submapper) (a .flags) known sizes (length arena) (sym q ∙ z))
             ∙ written-in-range (freshState (a .mapper) (a .submapper) (a .flags) known sizes) img l (f .range)
@@ -93,4 +84,14 @@ returns-3 c =
 
 pub namco163-load-spec : {M : Type 1} → statement M
 namco163-load-spec =
-    tie.close (tie.spec returns load-requires cast-result same-length returns-2 write-image-requires same-length-2 same-length-3 returns-3)
+    tie.close
+    (tie.spec
+    returns
+    (λ c κs. search needs)  -- load-requires
+    (λ c. search needs)  -- cast-result
+    (λ c. search needs)  -- same-length
+    returns-2
+    (λ c κs. search needs)  -- write-image-requires
+    (λ c. search needs)  -- same-length-2
+    (λ c. search needs)  -- same-length-3
+    returns-3)

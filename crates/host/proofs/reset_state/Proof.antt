@@ -14,41 +14,42 @@ use Rattle.host.proofs.Laws.{call-refused, call-accepted, word-of, imag
 use Rattle.host.proofs.reset_state.Statement.{statement}
 use Rattle.host.proofs.reset_state.Tie as tie
 
-reset-requires : tie.Need-reset-requires
-reset-requires c κs = search needs
-
-cast-result : tie.Need-cast-result
-cast-result c = search needs
-
 returns : tie.Need-returns
 returns c =
-    let a = c .before .before .before .before .before .args in
-    let r = c .before .before .before .reset in
+    let c1 = c .before in let c3 = c1 .before .before in let c5 = c3 .before .before in
+    let a = c5 .args in
+    let r = c3 .reset in
     let q = ap (λ (x : Altered). x .refusal) (r .ensures) ∙ reset-number (a .s) (a .kind) in
-    let e = call-refused (resetChecks (a .s) (a .kind)) (a .image .now) [] (resetGives (a .s) (a .kind)) (r .result .refusal) q (c .before .if1 .taken) in
+    let e = call-refused (resetChecks (a .s) (a .kind)) (a .image .now) [] (resetGives (a .s) (a .kind)) (r .result .refusal) q
+    (c1 .if1 .taken) in
     (word-of e, image-of e)
-
-write-image-requires : tie.Need-write-image-requires
-write-image-requires c κs = search needs
-
-same-length : tie.Need-same-length
-same-length c = search needs
 
 returns-2 : tie.Need-returns-2
 returns-2 c =
-    let t = c .before .before .before .before .before .before .before .before .before in
+    let c2 = c .before .before in let c5 = c2 .before .before .before in let c7 = c5 .before .before in
+    let c9 = c7 .before .before in
+    let t = c9 in
     let a = t .args in
-    let r = c .before .before .before .before .before .before .before .reset in
+    let r = c7 .reset in
     let q = ap (λ (x : Altered). x .refusal) (r .ensures) ∙ reset-number (a .s) (a .kind) in
-    let z = c .before .before .before .before .before .if1 .left in
-    let e = call-accepted (resetChecks (a .s) (a .kind)) (a .image .now) [] (resetGives (a .s) (a .kind)) (r .result .refusal) q z in
+    let z = c5 .if1 .left in
+    let e = call-accepted (resetChecks (a .s) (a .kind)) (a .image .now) [] (resetGives (a .s) (a .kind))
+    (r .result .refusal) q z in
     let k = reset-keeps (a .s) (a .kind) (typed-state (a .s) _ (t .good .0)) (sym q ∙ z) in (
       word-of e,
-      c .before .before .write-image .ensures .1
+      c2 .write-image .ensures .1
           ∙ ap (λ (x : Altered). writtenImage (x .state) (a .image .now)) (r .ensures)
           ∙ written-in-range (resetState (a .s) (a .kind) .state) (a .image .now) (t .pre) (k .range)
           ∙ image-of e,
     )
 
 pub reset-state-spec : {M : Type 1} → statement M
-reset-state-spec = tie.close (tie.spec reset-requires cast-result returns write-image-requires same-length returns-2)
+reset-state-spec =
+    tie.close
+    (tie.spec
+    (λ c κs. search needs)  -- reset-requires
+    (λ c. search needs)  -- cast-result
+    returns
+    (λ c κs. search needs)  -- write-image-requires
+    (λ c. search needs)  -- same-length
+    returns-2)

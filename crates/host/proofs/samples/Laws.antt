@@ -65,7 +65,8 @@ put-more xs l j h r =
     let first : done ++ vs ≡ each sampleBytes (take (j + 1) xs) =
     sym (each-snoc sampleBytes (take j xs) (getD xs j nan)) ∙ ap (each sampleBytes) (sym (rw (add-one, take-suc xs j nan h))) in
     let rest : drop (4 * j + length vs) (done ++ old) ≡ drop (4 * (j + 1)) l =
-    ap (λ (x : ℕ). drop (x + length vs) (done ++ old)) (sym n) ∙ drop-append-add done old (length vs) ∙ drop-drop (length vs) (4 * j) l ∙ ap (λ (x : ℕ). drop x l) m in
+    ap (λ (x : ℕ). drop (x + length vs) (done ++ old)) (sym n) ∙ drop-append-add done old (length vs)
+    ∙ drop-drop (length vs) (4 * j) l ∙ ap (λ (x : ℕ). drop x l) m in
     sets-eq vs (done ++ old) (4 * j) (omega (arith, v, put-length xs l j (omega arith) (omega arith)))
     ∙ ap (λ (x : List ℕ). x ++ vs ++ drop (4 * j + length vs) (done ++ old)) (take-at done old (4 * j) n)
     ∙ ap (λ (x : List ℕ). x ++ drop (4 * j + length vs) (done ++ old)) first
@@ -116,12 +117,14 @@ run-number zero t lent s = refl
 run-number (suc q) t lent s = refl
 
 -- the answer does not look at the lent samples
-pub answer-alone : (q : ℕ) (t : Point State Float) (lent other : List Float) (s : State) → ranOf (runBy q t lent s) ≡ ranOf (runBy q t other s)
+pub answer-alone : (q : ℕ) (t : Point State Float) (lent other : List Float) (s : State) → ranOf (runBy q t lent s) ≡ ranOf
+    (runBy q t other s)
 answer-alone zero t lent other s = refl
 answer-alone (suc q) t lent other s = refl
 
 -- the samples of a run into the buffer's first places, and the rest of the buffer
-pub whole-buffer : (q : ℕ) (t : Point State Float) (buf : List Float) (p : ℕ) (s : State) → (q ≡ 0 → length (t .stretch .samples) ≤ length (take p buf))
+pub whole-buffer : (q : ℕ) (t : Point State Float) (buf : List Float) (p : ℕ) (s : State)
+    → (q ≡ 0 → length (t .stretch .samples) ≤ length (take p buf))
     → runBy q t (take p buf) s .samples ++ drop p buf ≡ runBy q t buf s .samples
 whole-buffer zero t buf p s h =
     let w = t .stretch .samples in
@@ -135,7 +138,13 @@ whole-buffer (suc q) t buf p s h = take-append-drop p buf
 -- its answer, its samples first in the buffer, and that they are few enough for a buffer that holds the run and for the host's bytes
 pub record Ended (s : State) (n : ℕ) (bytes : List ℕ) (r : Ran) (after : List Float) : Type 0 where
   pub good : inRange s ≡ true
-  pub is : r ≡ (let t = clocks n s in record { refusal = 0; made = length (t .stretch .samples); rise = lastOr 0 (t .stretch .rises); state = t .state })
+  pub is : r ≡ (let t = clocks n s in record {
+    refusal = 0;
+    made = length (t .stretch .samples);
+    rise = lastOr 0
+        (t .stretch .rises);
+    state = t .state;
+  })
   pub first : take (r .made) after ≡ clocks n s .stretch .samples
   pub buffer : r .made ≤ 4370
   pub held : (places : ℕ) → HoldsRun s n places → r .made ≤ places
@@ -170,7 +179,8 @@ pub samples-numbers : (s : State) (n : ℕ) → Typed s → inRange s ≡ true �
     → T (not (isNan (getD (clocks n s .stretch .samples) j nan)))
 samples-numbers s n y e j = go (is163 (s .chip .board)) refl
   where
-    go : (t : Bool) → is163 (s .chip .board) ≡ t → j < length (clocks n s .stretch .samples) → T (not (isNan (getD (clocks n s .stretch .samples) j nan)))
+    go : (t : Bool) → is163 (s .chip .board) ≡ t → j < length (clocks n s .stretch .samples) → T
+        (not (isNan (getD (clocks n s .stretch .samples) j nan)))
     go true b h =
         rw (sounds-samples n s b)
         (samples-number n (s .chip .audio) (y .audio) (state-in s y e .chip .audio) j (rw (sounds-samples n s b) at h))

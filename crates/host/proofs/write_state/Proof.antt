@@ -19,64 +19,57 @@ use Rattle.host.proofs.write_state.Tie as tie
 cpu-write-of-requires : tie.Need-cpu-write-of-requires
 cpu-write-of-requires c κs = sym (c .before .before .before .pre .1)
 
-cast-result : tie.Need-cast-result
-cast-result c = search needs
-
-same-length : tie.Need-same-length
-same-length c = search needs
-
 returns : tie.Need-returns
 returns c =
-    let a = c .before .before .before .before .before .before .before .before .before .args in
+    let c1 = c .before in let c5 = c1 .before .before .before .before in let c9 = c5 .before .before .before .before in
+    let a = c9 .args in
     let arena = a .arena .now in
-    let r = c .before .before .before .before .before .cpu-write-of in
+    let r = c5 .cpu-write-of in
     let q = ap (λ (x : Written). x .refusal) (r .ensures .0) ∙ cpu-write-number (a .s) arena (a .addr) (a .val) in
-    let h = c .before .if1 .taken in
-    let e = call-refused (cpuChecks (a .s) (length arena) (a .addr)) (a .image .now) arena (writeGives (a .s) arena (a .addr) (a .val)) (r .result .refusal) q h in
+    let h = c1 .if1 .taken in
+    let e = call-refused (cpuChecks (a .s) (length arena) (a .addr)) (a .image .now) arena
+    (writeGives (a .s) arena (a .addr) (a .val)) (r .result .refusal) q h in
     (word-of e, (image-of e, r .ensures .1 ∙ cpu-write-refused (a .s) arena (a .addr) (λ z. h (q ∙ z)) (a .val) .1 ∙ lent-of e))
 
 put-state-requires : tie.Need-put-state-requires
 put-state-requires c κs =
-    let t = c .before .before .before .before .before .before .before .before .before .before in
+    let c2 = c .before .before in let c6 = c2 .before .before .before .before in let c9 = c6 .before .before .before in
+    let c10 = c9 .before in
+    let t = c10 in
     let a = t .args in
     let arena = a .arena .now in
-    let r = c .before .before .before .before .before .before .cpu-write-of in
+    let r = c6 .cpu-write-of in
     let q = ap (λ (x : Written). x .refusal) (r .ensures .0) ∙ cpu-write-number (a .s) arena (a .addr) (a .val) in
-    let z = c .before .before .if1 .left in
-    let k = cpu-write-keeps (a .s) arena (a .addr) (a .val) (search needs) (typed-state (a .s) _ (t .good .0)) (λ i. omega (arith, c .before .before .before .before .before .before .before .before .before .slice-known .given i)) (sym q ∙ z) in
+    let z = c2 .if1 .left in
+    let k = cpu-write-keeps (a .s) arena (a .addr) (a .val) (search needs) (typed-state (a .s) _ (t .good .0))
+    (λ i. omega (arith, c9 .slice-known .given i)) (sym q ∙ z) in
     (t .pre .0, ap (λ (x : Written). inRange (x .state)) (r .ensures .0) ∙ k .0 .range)
-
-cast-result-2 : tie.Need-cast-result-2
-cast-result-2 c = search needs
-
-mul-result : tie.Need-mul-result
-mul-result c = search needs
 
 add-result : tie.Need-add-result
 add-result c =
-    let a = c .before .before .before .before .before .before .before .before .before .before .before .before .before .before .before .args in
-    let r = c .before .before .before .before .before .before .before .before .before .before .before .cpu-write-of in
+    let c1 = c .before in
+    let c11 = c1 .before .before .before .before .before .before .before .before .before .before in
+    let c15 = c11 .before .before .before .before in
+    let a = c15 .args in
+    let r = c11 .cpu-write-of in
     let m = ap (λ (x : Written). x .changed .prg .mask) (r .ensures .0) in
-    omega (arith, m, cpu-write-mask (a .s) (a .arena .now) (a .addr) (a .val), c .struct-known4 .given, c .before .struct-known3 .given)
-
-same-length-2 : tie.Need-same-length-2
-same-length-2 c = search needs
-
-same-length-3 : tie.Need-same-length-3
-same-length-3 c = search needs
+    omega (arith, m, cpu-write-mask (a .s) (a .arena .now) (a .addr) (a .val), c .struct-known4 .given, c1 .struct-known3 .given)
 
 returns-2 : tie.Need-returns-2
 returns-2 c =
-    let t = c .before .before .before .before .before .before .before .before .before .before .before .before .before .before .before in
+    let c4 = c .before .before .before .before in let c7 = c4 .before .before .before in
+    let c11 = c7 .before .before .before .before in let c15 = c11 .before .before .before .before in
+    let t = c15 in
     let a = t .args in
     let arena = a .arena .now in
-    let r = c .before .before .before .before .before .before .before .before .before .before .before .cpu-write-of in
+    let r = c11 .cpu-write-of in
     let q = ap (λ (x : Written). x .refusal) (r .ensures .0) ∙ cpu-write-number (a .s) arena (a .addr) (a .val) in
-    let z = c .before .before .before .before .before .before .before .if1 .left in
-    let e = call-accepted (cpuChecks (a .s) (length arena) (a .addr)) (a .image .now) arena (writeGives (a .s) arena (a .addr) (a .val)) (r .result .refusal) q z in (
+    let z = c7 .if1 .left in
+    let e = call-accepted (cpuChecks (a .s) (length arena) (a .addr)) (a .image .now) arena
+    (writeGives (a .s) arena (a .addr) (a .val)) (r .result .refusal) q z in (
       ap (λ (x : Written). x .changed .chr .mask * 256 + x .changed .prg .mask) (r .ensures .0) ∙ word-of e,
       (
-        c .before .before .before .before .put-state .ensures ∙ ap (λ (x : Written). imageOf (x .state)) (r .ensures .0) ∙ image-of e,
+        c4 .put-state .ensures ∙ ap (λ (x : Written). imageOf (x .state)) (r .ensures .0) ∙ image-of e,
         r .ensures .1 ∙ lent-of e,
       ),
     )
@@ -86,13 +79,13 @@ write-state-spec =
     tie.close
     (tie.spec
     cpu-write-of-requires
-    cast-result
-    same-length
+    (λ c. search needs)  -- cast-result
+    (λ c. search needs)  -- same-length
     returns
     put-state-requires
-    cast-result-2
-    mul-result
+    (λ c. search needs)  -- cast-result-2
+    (λ c. search needs)  -- mul-result
     add-result
-    same-length-2
-    same-length-3
+    (λ c. search needs)  -- same-length-2
+    (λ c. search needs)  -- same-length-3
     returns-2)

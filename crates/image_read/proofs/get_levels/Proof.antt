@@ -12,19 +12,15 @@ use borrow.Author.Needs.{needs}
 use Rattle.image_read.proofs.get_levels.Statement.{statement}
 use Rattle.image_read.proofs.get_levels.Tie as tie
 
-slice-aggregate-get-run : tie.Need-slice-aggregate-get-run
-slice-aggregate-get-run c = search needs
-
-get-run-requires : tie.Need-get-run-requires
-get-run-requires c κs = search needs
-
 levels-of-requires : tie.Need-levels-of-requires
 levels-of-requires c κs = fit-below 8 12 (c .before .get-run .last .1 .1 .1 .0) (c .before .get-run .ensures .fit)
 
 returns : tie.Need-returns
 unfolding total
-returns c = c .levels-of .ensures ∙ ap (map whole) (sym (section-is (c .before .before .before .before .before .args .img .now) 153 12 (omega arith) _ (replicate 8 12) _ refl (c .before .before .get-run .ensures)))
+returns c =
+    let c2 = c .before .before in let c5 = c2 .before .before .before in
+    c .levels-of .ensures ∙ ap (map whole)
+    (sym (section-is (c5 .args .img .now) 153 12 (omega arith) _ (replicate 8 12) _ refl (c2 .get-run .ensures)))
 
 pub get-levels-spec : {M : Type 1} → statement M
-get-levels-spec =
-    tie.close (tie.spec slice-aggregate-get-run get-run-requires levels-of-requires returns)
+get-levels-spec = tie.close (tie.spec (λ c. search needs) (λ c κs. search needs) levels-of-requires returns)

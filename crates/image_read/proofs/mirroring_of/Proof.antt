@@ -4,20 +4,17 @@ use borrow.Author.Needs.{needs}
 use Rattle.image_read.proofs.mirroring_of.Statement.{statement}
 use Rattle.image_read.proofs.mirroring_of.Tie as tie
 
-returns : tie.Need-returns
-returns c = search needs
-
-returns-2 : tie.Need-returns-2
-returns-2 c = search needs
-
-returns-3 : tie.Need-returns-3
-returns-3 c = search needs
-
-returns-4 : tie.Need-returns-4
-returns-4 c = search needs
-
 returns-5 : tie.Need-returns-5
-returns-5 c = mirroring-else (c .before .before .before .before .args .n) (c .before .before .before .if1 .left) (c .before .before .if2 .left) (c .before .if3 .left) (c .if4 .left)
+returns-5 c =
+    let c1 = c .before in let c2 = c1 .before in let c3 = c2 .before in let c4 = c3 .before in
+    mirroring-else (c4 .args .n) (c3 .if1 .left) (c2 .if2 .left) (c1 .if3 .left) (c .if4 .left)
 
 pub mirroring-of-spec : {M : Type 1} → statement M
-mirroring-of-spec = tie.close (tie.spec returns returns-2 returns-3 returns-4 returns-5)
+mirroring-of-spec =
+    tie.close
+    (tie.spec
+    (λ c. search needs)  -- returns
+    (λ c. search needs)  -- returns-2
+    (λ c. search needs)  -- returns-3
+    (λ c. search needs)  -- returns-4
+    returns-5)

@@ -5,14 +5,8 @@ use borrow.Author.Needs.{needs}
 use Rattle.image_read.proofs.page_of.Statement.{statement}
 use Rattle.image_read.proofs.page_of.Tie as tie
 
-mul-new : tie.Need-mul-new
-mul-new c = search needs
-
-new-requires : tie.Need-new-requires
-new-requires c κs = search needs
-
 returns : tie.Need-returns
 returns c = rw (mul-comm 1024 (c .before .args .w / 2)) (c .new .ensures)
 
 pub page-of-spec : {M : Type 1} → statement M
-page-of-spec = tie.close (tie.spec mul-new new-requires returns)
+page-of-spec = tie.close (tie.spec (λ c. search needs) (λ c κs. search needs) returns)

@@ -11,18 +11,6 @@ use borrow.Author.Needs.{needs}
 use Rattle.image_read.proofs.read_memory.Statement.{statement}
 use Rattle.image_read.proofs.read_memory.Tie as tie
 
-get-prg-pages-requires : tie.Need-get-prg-pages-requires
-get-prg-pages-requires c κs = search needs
-
-get-chr-pages-requires : tie.Need-get-chr-pages-requires
-get-chr-pages-requires c κs = search needs
-
-load-requires : tie.Need-load-requires
-load-requires c κs = search needs
-
-mul-t7 : tie.Need-mul-t7
-mul-t7 c = search needs
-
 returns : tie.Need-returns
 unfolding memoryAt
 returns c =
@@ -33,4 +21,10 @@ returns c =
 
 pub read-memory-spec : {M : Type 1} → statement M
 read-memory-spec =
-    tie.close (tie.spec get-prg-pages-requires get-chr-pages-requires load-requires mul-t7 returns)
+    tie.close
+    (tie.spec
+    (λ c κs. search needs)  -- get-prg-pages-requires
+    (λ c κs. search needs)  -- get-chr-pages-requires
+    (λ c κs. search needs)  -- load-requires
+    (λ c. search needs)  -- mul-t7
+    returns)

@@ -11,44 +11,29 @@ use borrow.Author.Needs.{needs}
 use Rattle.image_read.proofs.read_sound.Statement.{statement}
 use Rattle.image_read.proofs.read_sound.Tie as tie
 
-get-ram-requires : tie.Need-get-ram-requires
-get-ram-requires c κs = search needs
-
-load-requires : tie.Need-load-requires
-load-requires c κs = search needs
-
-get-levels-requires : tie.Need-get-levels-requires
-get-levels-requires c κs = search needs
-
-get-phases-requires : tie.Need-get-phases-requires
-get-phases-requires c κs = search needs
-
 float-from-bits-out : tie.Need-float-from-bits-out
-float-from-bits-out c = from-bits-ok (c .before .before .before .before .before .args .bits) (c .before .before .before .before .before .pre .1)
-
-cast-t19 : tie.Need-cast-t19
-cast-t19 c = search needs
-
-cast-t21 : tie.Need-cast-t21
-cast-t21 c = search needs
+float-from-bits-out c =
+    let c5 = c .before .before .before .before .before in
+    from-bits-ok (c5 .args .bits) (c5 .pre .1)
 
 returns : tie.Need-returns
 unfolding soundAt
 returns c =
-    let img = c .before .before .before .before .before .args .img .now in
-    let w = c .before .before .load .result in
-    let e : w ≡ wordOf (take 2 (drop 151 img)) = omega (arith, c .before .before .load .ensures .0) in
-    rw (port-at img w e, c .before .before .before .get-ram .ensures, c .before .get-levels .ensures, c .get-phases .ensures)
+    let c1 = c .before in let c2 = c1 .before in let c3 = c2 .before in let c5 = c3 .before .before in
+    let img = c5 .args .img .now in
+    let w = c2 .load .result in
+    let e : w ≡ wordOf (take 2 (drop 151 img)) = omega (arith, c2 .load .ensures .0) in
+    rw (port-at img w e, c3 .get-ram .ensures, c1 .get-levels .ensures, c .get-phases .ensures)
 
 pub read-sound-spec : {M : Type 1} → statement M
 read-sound-spec =
     tie.close
     (tie.spec
-    get-ram-requires
-    load-requires
-    get-levels-requires
-    get-phases-requires
+    (λ c κs. search needs)  -- get-ram-requires
+    (λ c κs. search needs)  -- load-requires
+    (λ c κs. search needs)  -- get-levels-requires
+    (λ c κs. search needs)  -- get-phases-requires
     float-from-bits-out
-    cast-t19
-    cast-t21
+    (λ c. search needs)  -- cast-t19
+    (λ c. search needs)  -- cast-t21
     returns)

@@ -39,7 +39,8 @@ chr-page m arena b i h = rw (b .long) (entry-page (arenaPages (m .layout)) _ (b 
 pub wrapped-in : (start len offset n : ℕ) → (len ≡ 0 → ⊥) → start + len ≤ n → start + offset % len < n
 wrapped-in start len offset n ne h = let p : 0 < len = omega (arith, ne) in omega (arith, mod-lt offset p)
 
-pub region-backed : (m : Memory) (arena : List ℕ) → Backed m arena → (s : Src) → regionIn m s .start + regionIn m s .len ≤ length arena
+pub region-backed : (m : Memory) (arena : List ℕ) → Backed m arena → (s : Src)
+    → regionIn m s .start + regionIn m s .len ≤ length arena
 region-backed m arena b s = rw (b .long) (region-in (m .layout) (m .«battery_ext_len») s (b .ranged .sized .used))
 
 -- a part of the arena that was lent comes back in its place
@@ -64,7 +65,8 @@ pub store-same : (arena : List ℕ) (i v : ℕ) → i < length arena → fetch (
 store-same arena i v h = getD-set-same arena i v 0 h
 
 -- a write through a page in the arena stores into that page
-pub stored-page : (n : ℕ) (p : Page) (addr i : ℕ) → EntryIn n p → storedAt p addr ≡ some i → (i / 1024 ≡ offsetOf p / 1024) × (i < 1024 * n)
+pub stored-page : (n : ℕ) (p : Page) (addr i : ℕ) → EntryIn n p → storedAt p addr ≡ some i → (i / 1024 ≡ offsetOf p / 1024) ×
+    (i < 1024 * n)
 unfolding storedAt
 stored-page n p addr i e = go (writableOf p)
   where
@@ -77,8 +79,10 @@ pub wrapped-region : (r : Region) (offset i : ℕ) → wrappedAt r offset ≡ so
 unfolding wrappedAt
 wrapped-region r offset i = by (ℕ-discrete (r .len) 0)
   where
-    by : Dec (r .len ≡ 0) → pick (eqb (r .len) 0) none (some (r .start + offset % r .len)) ≡ some i → (r .start ≤ i) × (i < r .start + r .len)
-    by (yes e) s = let z : _≡_ {A = ℕ} 0 1 = (let t : Path (Option ℕ) none (some i) = rw (eq-eqb (r .len) 0 e) at s in cc) in absurd (omega arith)
+    by : Dec (r .len ≡ 0) → pick (eqb (r .len) 0) none (some (r .start + offset % r .len)) ≡ some i → (r .start ≤ i) ×
+        (i < r .start + r .len)
+    by (yes e) s = let z : _≡_ {A = ℕ} 0 1 = (let t : Path (Option ℕ) none (some i) = rw (eq-eqb (r .len) 0 e) at s in cc) in absurd
+        (omega arith)
     by (no ne) s =
         let t : Path (Option ℕ) (some (r .start + offset % r .len)) (some i) = rw (ne-eqb (r .len) 0 ne) at s in
         let at : r .start + offset % r .len ≡ i = cc in
@@ -90,7 +94,8 @@ store-backed m arena at v b = record { ranged = b .ranged; long = store-length a
 
 -- ---- bytes laid over the arena
 
-pub overlay-length : (arena : List ℕ) (at : ℕ) (bytes : List ℕ) → at + length bytes ≤ length arena → length (overlay arena at bytes) ≡ length arena
+pub overlay-length : (arena : List ℕ) (at : ℕ) (bytes : List ℕ) → at + length bytes ≤ length arena → length (overlay arena at bytes)
+    ≡ length arena
 overlay-length arena at bytes h = rw (take-length bytes) at (length-paste arena at bytes (length bytes) h (omega arith))
 
 -- a byte before or behind them stays, and those between are the new ones
@@ -98,7 +103,8 @@ pub overlay-before : (arena : List ℕ) (at : ℕ) (bytes : List ℕ) (j : ℕ) 
     → getD (overlay arena at bytes) j 0 ≡ getD arena j 0
 overlay-before arena at bytes j h before =
     let l : length (take at arena) ≡ at = length-take-le at arena (omega arith) in
-    rw append-assoc (List·getD-append (take at arena) (bytes ++ drop (at + length bytes) arena) 0 j (omega arith) ∙ getD-take at arena j 0 before)
+    rw append-assoc (List·getD-append (take at arena) (bytes ++ drop (at + length bytes) arena) 0 j (omega arith)
+    ∙ getD-take at arena j 0 before)
 
 pub overlay-behind : (arena : List ℕ) (at : ℕ) (bytes : List ℕ) (j : ℕ) → at + length bytes ≤ length arena → at + length bytes ≤ j
     → getD (overlay arena at bytes) j 0 ≡ getD arena j 0

@@ -112,7 +112,8 @@ lowest-before [] new k e h = absurd (omega arith)
 lowest-before (a ∷ old) [] k e h = absurd (omega arith)
 lowest-before (a ∷ old) (b ∷ new) k e h = go (λ j q. lowest-before old new j (omega arith) q) (same a b) refl k h
   where
-    go : ((j : ℕ) → j < lowestChanged old new → getD old j unmapped .0 ≡ getD new j unmapped .0) → (t : Bool) → same a b ≡ t → (k : ℕ) → k < pick t (suc (lowestChanged old new)) 0
+    go : ((j : ℕ) → j < lowestChanged old new → getD old j unmapped .0 ≡ getD new j unmapped .0) → (t : Bool) → same a b ≡ t
+        → (k : ℕ) → k < pick t (suc (lowestChanged old new)) 0
         → getD (a ∷ old) k unmapped .0 ≡ getD (b ∷ new) k unmapped .0
     go rest true s zero h = eqb-true (a .0) (b .0) s
     go rest true s (suc k) h = rest k (omega arith)
@@ -129,7 +130,8 @@ lowest-differs (a ∷ old) (b ∷ new) e h = go (λ q. lowest-differs old new (o
     go : (lowestChanged old new < length old
         → getD old (lowestChanged old new) unmapped .0 ≡ getD new (lowestChanged old new) unmapped .0 → ⊥)
         → (t : Bool) → same a b ≡ t → pick t (suc (lowestChanged old new)) 0 < suc (length old)
-        → getD (a ∷ old) (pick t (suc (lowestChanged old new)) 0) unmapped .0 ≡ getD (b ∷ new) (pick t (suc (lowestChanged old new)) 0) unmapped .0 → ⊥
+        → getD (a ∷ old) (pick t (suc (lowestChanged old new)) 0) unmapped .0 ≡ getD (b ∷ new)
+        (pick t (suc (lowestChanged old new)) 0) unmapped .0 → ⊥
     go rest true s h = rest (omega arith)
     go rest false s h = eqb-false (a .0) (b .0) s
 

@@ -106,10 +106,12 @@ layout-good s e =
     record { prgRom = omega arith; prgRam = omega arith; battery = omega arith; chr = omega arith; ciram = c .1; someCiram = c .0 }
 
 -- the battery region begins where PRG-RAM ends, so that `sram` is one stretch
-pub battery-behind : (l : Layout) (used : ℕ) → regionOf l used BatteryExt .start ≡ regionOf l used PrgRam .start + regionOf l used PrgRam .len
+pub battery-behind : (l : Layout) (used : ℕ) → regionOf l used BatteryExt .start
+    ≡ regionOf l used PrgRam .start + regionOf l used PrgRam .len
 unfolding regionOf firstPage pagesBefore arenaOrder
 battery-behind l used = go (l .«chr_writable»)
   where
-    go : (ram : Bool) → 1024 * (1 + pagesBefore l BatteryExt (arenaOrder ram)) ≡ 1024 * (1 + pagesBefore l PrgRam (arenaOrder ram)) + 1024 * l .«prg_ram»
+    go : (ram : Bool) → 1024 * (1 + pagesBefore l BatteryExt (arenaOrder ram)) ≡ 1024 *
+        (1 + pagesBefore l PrgRam (arenaOrder ram)) + 1024 * l .«prg_ram»
     go true = omega arith
     go false = omega arith

@@ -90,7 +90,8 @@ pub record Paged (n : ℕ) (r : Region) : Type 0 where
   pub within : x + y ≤ n
 
 -- each region that the board maps is as long as its pages: `refl` there
-pub region-paged : (l : Layout) (used : ℕ) (s : Src) → regionLen l used s ≡ 1024 * pagesIn l s → Paged (arenaPages l) (regionOf l used s)
+pub region-paged : (l : Layout) (used : ℕ) (s : Src) → regionLen l used s ≡ 1024 * pagesIn l s → Paged (arenaPages l)
+    (regionOf l used s)
 unfolding regionOf
 region-paged l used s e = record { x = firstPage l s; y = pagesIn l s; start = refl; len = e; within = region-ends l s }
 
@@ -181,7 +182,8 @@ module _ (m : Memory) (q : Ranged m) where
       record {
         sized = record { layout = q .sized .layout; used = q .sized .used };
         prg =
-            each-in (arenaPages (m .layout)) 64 _ (omega arith) (λ i old e. unmapped-in _ (arena-some (m .layout))) (addr / 1024) (s / 1024)
+            each-in (arenaPages (m .layout)) 64 _ (omega arith) (λ i old e. unmapped-in _ (arena-some (m .layout))) (addr / 1024)
+            (s / 1024)
             (m .«prg_pages») (q .prg);
         chr = q .chr;
       }
@@ -192,7 +194,8 @@ module _ (m : Memory) (q : Ranged m) where
       record {
         sized = record { layout = q .sized .layout; used = q .sized .used };
         prg =
-            each-in (arenaPages (m .layout)) 64 _ (omega arith) (λ i old e. flag-in _ w old e) (addr / 1024) (s / 1024) (m .«prg_pages»)
+            each-in (arenaPages (m .layout)) 64 _ (omega arith) (λ i old e. flag-in _ w old e) (addr / 1024) (s / 1024)
+            (m .«prg_pages»)
             (q .prg);
         chr = q .chr;
       }
@@ -205,7 +208,8 @@ module _ (m : Memory) (q : Ranged m) where
         prg = q .prg;
         chr =
             mirror-in (arenaPages (m .layout)) 16 _ (arena-some (m .layout)) (arena-small (m .layout) (q .sized .layout))
-            (region-paged (m .layout) (m .«battery_ext_len») CiRam refl) (omega arith) (ciramBanks k) (m .«chr_pages») (q .sized .layout .someCiram)
+            (region-paged (m .layout) (m .«battery_ext_len») CiRam refl) (omega arith) (ciramBanks k) (m .«chr_pages»)
+            (q .sized .layout .someCiram)
             (q .chr);
       }
 

@@ -21,33 +21,17 @@ abbrev μ-loop : tie.MeasureT-loop
 loop-holds : tie.Need-loop-holds Inv-loop μ-loop
 loop-holds c = (omega arith, omega arith, c .before .pre, zero-add _)
 
-read-register-requires : tie.Need-read-register-requires Inv-loop μ-loop
-read-register-requires c κs = search needs
-
-shared-slice-read-equal : tie.Need-shared-slice-read-equal Inv-loop μ-loop
-shared-slice-read-equal c = search needs
-
-equal-requires : tie.Need-equal-requires Inv-loop μ-loop
-equal-requires c κs = search needs
-
-add-same : tie.Need-add-same Inv-loop μ-loop
-add-same c = search needs
-
-add-i : tie.Need-add-i Inv-loop μ-loop
-add-i c = search needs
-
-loop-less : tie.Need-loop-less Inv-loop μ-loop
-loop-less c = search needs
-
 loop-again : tie.Need-loop-again Inv-loop μ-loop
 loop-again c =
-    let l = c .before .before .before .before .before .loop in
-    let r = c .before .before .before .read-register in
-    let bytes = c .before .before .before .before .before .before .before .args .bytes .now in (
+    let c1 = c .before in let c3 = c1 .before .before in let c5 = c3 .before .before in let c7 = c5 .before .before in
+    let l = c5 .loop in
+    let r = c3 .read-register in
+    let bytes = c7 .args .bytes .now in (
       omega arith,
-      omega (arith, c .before .equal .ensures .1),
+      omega (arith, c1 .equal .ensures .1),
       rw (r .ensures) (stays-in-range (l .a) (l .inv .2)),
-      agree-more bytes (l .a) (l .i) (l .same) (c .before .equal .result) _ (r .result) (omega arith) (r .ensures) (c .before .equal .ensures .0) (l .inv .3),
+      agree-more bytes (l .a) (l .i) (l .same) (c1 .equal .result) _ (r .result) (omega arith) (r .ensures) (c1 .equal .ensures .0)
+          (l .inv .3),
     )
 
 returns : tie.Need-returns Inv-loop μ-loop
@@ -62,11 +46,11 @@ agreeing-spec =
     Inv-loop
     μ-loop
     loop-holds
-    read-register-requires
-    shared-slice-read-equal
-    equal-requires
-    add-same
-    add-i
-    loop-less
+    (λ c κs. search needs)  -- read-register-requires
+    (λ c. search needs)  -- shared-slice-read-equal
+    (λ c κs. search needs)  -- equal-requires
+    (λ c. search needs)  -- add-same
+    (λ c. search needs)  -- add-i
+    (λ c. search needs)  -- loop-less
     loop-again
     returns)

@@ -12,29 +12,11 @@ Inv-loop a₀ i₀ a i = (i ≤ 128) × (a .addr ≡ 0)
 abbrev μ-loop : tie.MeasureT-loop
 μ-loop a₀ i₀ a i = 128 - i
 
-new-requires : tie.Need-new-requires Inv-loop μ-loop
-new-requires c κs = search needs
-
 loop-holds : tie.Need-loop-holds Inv-loop μ-loop
 loop-holds c = rw (c .new .ensures) (omega arith, refl)
 
-cast-a : tie.Need-cast-a Inv-loop μ-loop
-cast-a c = search needs
-
-element-write-a : tie.Need-element-write-a Inv-loop μ-loop
-element-write-a c = search needs
-
-add-i : tie.Need-add-i Inv-loop μ-loop
-add-i c = search needs
-
-loop-less : tie.Need-loop-less Inv-loop μ-loop
-loop-less c = search needs
-
 loop-again : tie.Need-loop-again Inv-loop μ-loop
 loop-again c = (omega arith, c .before .loop .inv .1)
-
-returns : tie.Need-returns Inv-loop μ-loop
-returns c = search needs
 
 pub numbered-spec : {M : Type 1} → statement M
 numbered-spec =
@@ -42,11 +24,11 @@ numbered-spec =
     (tie.spec
     Inv-loop
     μ-loop
-    new-requires
+    (λ c κs. search needs)  -- new-requires
     loop-holds
-    cast-a
-    element-write-a
-    add-i
-    loop-less
+    (λ c. search needs)  -- cast-a
+    (λ c. search needs)  -- element-write-a
+    (λ c. search needs)  -- add-i
+    (λ c. search needs)  -- loop-less
     loop-again
-    returns)
+    (λ c. search needs))  -- returns

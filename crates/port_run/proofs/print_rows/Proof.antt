@@ -12,47 +12,8 @@ Inv-loop bytes i₀ t3 t4 i = i ≤ length bytes
 abbrev μ-loop : tie.MeasureT-loop
 μ-loop bytes i₀ t3 t4 i = length bytes - i
 
-loop-holds : tie.Need-loop-holds Inv-loop μ-loop
-loop-holds c = search needs
-
-shared-slice-read-print-hex : tie.Need-shared-slice-read-print-hex Inv-loop μ-loop
-shared-slice-read-print-hex c = search needs
-
 cast-print-hex : tie.Need-cast-print-hex Inv-loop μ-loop
 cast-print-hex c = omega (arith, c .shared-slice-known2 .given (c .before .before .loop .i))
-
-print-hex-requires : tie.Need-print-hex-requires Inv-loop μ-loop
-print-hex-requires c κs = search needs
-
-add-i : tie.Need-add-i Inv-loop μ-loop
-add-i c = search needs
-
-slice-aggregate-write-all : tie.Need-slice-aggregate-write-all Inv-loop μ-loop
-slice-aggregate-write-all c = search needs
-
-write-all-requires : tie.Need-write-all-requires Inv-loop μ-loop
-write-all-requires c κs = search needs
-
-loop-less : tie.Need-loop-less Inv-loop μ-loop
-loop-less c = search needs
-
-loop-again : tie.Need-loop-again Inv-loop μ-loop
-loop-again c = search needs
-
-slice-aggregate-write-all-2 : tie.Need-slice-aggregate-write-all-2 Inv-loop μ-loop
-slice-aggregate-write-all-2 c = search needs
-
-write-all-requires-2 : tie.Need-write-all-requires-2 Inv-loop μ-loop
-write-all-requires-2 c κs = search needs
-
-loop-less-2 : tie.Need-loop-less-2 Inv-loop μ-loop
-loop-less-2 c = search needs
-
-loop-again-2 : tie.Need-loop-again-2 Inv-loop μ-loop
-loop-again-2 c = search needs
-
-returns : tie.Need-returns Inv-loop μ-loop
-returns c = search needs
 
 pub print-rows-spec : {M : Type 1} → statement M
 print-rows-spec =
@@ -60,17 +21,17 @@ print-rows-spec =
     (tie.spec
     Inv-loop
     μ-loop
-    loop-holds
-    shared-slice-read-print-hex
+    (λ c. search needs)  -- loop-holds
+    (λ c. search needs)  -- shared-slice-read-print-hex
     cast-print-hex
-    print-hex-requires
-    add-i
-    slice-aggregate-write-all
-    write-all-requires
-    loop-less
-    loop-again
-    slice-aggregate-write-all-2
-    write-all-requires-2
-    loop-less-2
-    loop-again-2
-    returns)
+    (λ c κs. search needs)  -- print-hex-requires
+    (λ c. search needs)  -- add-i
+    (λ c. search needs)  -- slice-aggregate-write-all
+    (λ c κs. search needs)  -- write-all-requires
+    (λ c. search needs)  -- loop-less
+    (λ c. search needs)  -- loop-again
+    (λ c. search needs)  -- slice-aggregate-write-all-2
+    (λ c κs. search needs)  -- write-all-requires-2
+    (λ c. search needs)  -- loop-less-2
+    (λ c. search needs)  -- loop-again-2
+    (λ c. search needs))  -- returns

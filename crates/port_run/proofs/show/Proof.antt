@@ -6,18 +6,6 @@ use borrow.Author.Needs.{needs}
 use Rattle.port_run.proofs.show.Statement.{statement}
 use Rattle.port_run.proofs.show.Tie as tie
 
-read-block-requires : tie.Need-read-block-requires
-read-block-requires c κs = search needs
-
-print-rows-requires : tie.Need-print-rows-requires
-print-rows-requires c κs = search needs
-
-agreeing-requires : tie.Need-agreeing-requires
-agreeing-requires c κs = search needs
-
-same-length : tie.Need-same-length
-same-length c = search needs
-
 returns : tie.Need-returns
 returns c =
     let read = c .before .before .before .before .before .before in
@@ -28,4 +16,9 @@ returns c =
 pub show-spec : {M : Type 1} → statement M
 show-spec =
     tie.close
-    (tie.spec read-block-requires print-rows-requires agreeing-requires same-length returns)
+    (tie.spec
+    (λ c κs. search needs)  -- read-block-requires
+    (λ c κs. search needs)  -- print-rows-requires
+    (λ c κs. search needs)  -- agreeing-requires
+    (λ c. search needs)  -- same-length
+    returns)

@@ -8,23 +8,45 @@ use Rattle.refusals.proofs.Laws.{first-more, first-done, arena-good, ar
 use Rattle.refusals.proofs.fill_refusal.Statement.{statement}
 use Rattle.refusals.proofs.fill_refusal.Tie as tie
 
-arena-refusal-requires : tie.Need-arena-refusal-requires
-arena-refusal-requires c κs = search needs
-
 returns : tie.Need-returns
-returns c = let a = c .before .before .args in c .before .arena-refusal .ensures ∙ sym (first-done (arenaChecks (a .s) (a .len)) (fillCheck (a .s) (a .src) (a .n) ∷ []) (λ e. c .if1 .taken (c .before .arena-refusal .ensures ∙ e)))
+returns c =
+    let c1 = c .before in let c2 = c1 .before in
+    let a = c2 .args in
+    c1 .arena-refusal .ensures ∙ sym
+    (first-done (arenaChecks (a .s) (a .len)) (fillCheck (a .s) (a .src) (a .n) ∷ [])
+    (λ e. c .if1 .taken (c1 .arena-refusal .ensures ∙ e)))
 
 region-requires : tie.Need-region-requires
-region-requires c κs = let a = c .before .before .before .before .args in let g = memory-good (a .s) (arena-good (a .s) (a .len) (sym (c .before .before .before .arena-refusal .ensures) ∙ c .before .before .if1 .left) .good) .ranged .sized in (g .layout, g .used)
+region-requires c κs =
+    let c2 = c .before .before in let c3 = c2 .before in let c4 = c3 .before in
+    let a = c4 .args in
+    let g = memory-good (a .s) (arena-good (a .s) (a .len)
+    (sym (c3 .arena-refusal .ensures) ∙ c2 .if1 .left) .good) .ranged .sized in
+    (g .layout, g .used)
 
 returns-2 : tie.Need-returns-2
 unfolding firstOf
-returns-2 c = let a = c .before .before .before .before .before .before .before .args in rw (first-more (arenaChecks (a .s) (a .len)) (fillCheck (a .s) (a .src) (a .n) ∷ []) (arena-checks (a .s) (a .len) (sym (c .before .before .before .before .before .before .arena-refusal .ensures) ∙ c .before .before .before .before .before .if1 .left)), ← c .before .before .region .ensures .0, lt-ltb _ _ (c .if2 .taken))
+returns-2 c =
+    let c2 = c .before .before in let c5 = c2 .before .before .before in let c6 = c5 .before in let c7 = c6 .before in
+    let a = c7 .args in
+    rw (
+      first-more (arenaChecks (a .s) (a .len)) (fillCheck (a .s) (a .src) (a .n) ∷ [])
+          (arena-checks (a .s) (a .len) (sym (c6 .arena-refusal .ensures) ∙ c5 .if1 .left)),
+      ← c2 .region .ensures .0,
+      lt-ltb _ _ (c .if2 .taken),
+    )
 
 returns-3 : tie.Need-returns-3
 unfolding firstOf
-returns-3 c = let a = c .before .before .before .before .before .before .before .args in rw (first-more (arenaChecks (a .s) (a .len)) (fillCheck (a .s) (a .src) (a .n) ∷ []) (arena-checks (a .s) (a .len) (sym (c .before .before .before .before .before .before .arena-refusal .ensures) ∙ c .before .before .before .before .before .if1 .left)), ← c .before .before .region .ensures .0, le-ltb _ _ (c .if2 .left))
+returns-3 c =
+    let c2 = c .before .before in let c5 = c2 .before .before .before in let c6 = c5 .before in let c7 = c6 .before in
+    let a = c7 .args in
+    rw (
+      first-more (arenaChecks (a .s) (a .len)) (fillCheck (a .s) (a .src) (a .n) ∷ [])
+          (arena-checks (a .s) (a .len) (sym (c6 .arena-refusal .ensures) ∙ c5 .if1 .left)),
+      ← c2 .region .ensures .0,
+      le-ltb _ _ (c .if2 .left),
+    )
 
 pub fill-refusal-spec : {M : Type 1} → statement M
-fill-refusal-spec =
-    tie.close (tie.spec arena-refusal-requires returns region-requires returns-2 returns-3)
+fill-refusal-spec = tie.close (tie.spec (λ c κs. search needs) returns region-requires returns-2 returns-3)

@@ -5,9 +5,6 @@ use Rattle.refusals.specs.Refusals.{firstOf}
 use Rattle.refusals.proofs.reset_refusal.Statement.{statement}
 use Rattle.refusals.proofs.reset_refusal.Tie as tie
 
-in-range-requires : tie.Need-in-range-requires
-in-range-requires c κs = search needs
-
 returns : tie.Need-returns
 unfolding firstOf
 returns c = rw (← c .before .before .in-range .ensures, c .before .if1 .taken, lt-ltb _ _ (c .if2 .taken))
@@ -21,4 +18,4 @@ unfolding firstOf
 returns-3 c = rw (← c .before .in-range .ensures, c .if1 .left)
 
 pub reset-refusal-spec : {M : Type 1} → statement M
-reset-refusal-spec = tie.close (tie.spec in-range-requires returns returns-2 returns-3)
+reset-refusal-spec = tie.close (tie.spec (λ c κs. search needs) returns returns-2 returns-3)

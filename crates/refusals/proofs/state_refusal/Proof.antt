@@ -4,9 +4,6 @@ use Rattle.refusals.specs.Refusals.{firstOf}
 use Rattle.refusals.proofs.state_refusal.Statement.{statement}
 use Rattle.refusals.proofs.state_refusal.Tie as tie
 
-in-range-requires : tie.Need-in-range-requires
-in-range-requires c κs = search needs
-
 returns : tie.Need-returns
 unfolding firstOf
 returns c = rw (← c .before .in-range .ensures, c .if1 .taken)
@@ -16,4 +13,4 @@ unfolding firstOf
 returns-2 c = rw (← c .before .in-range .ensures, c .if1 .left)
 
 pub state-refusal-spec : {M : Type 1} → statement M
-state-refusal-spec = tie.close (tie.spec in-range-requires returns returns-2)
+state-refusal-spec = tie.close (tie.spec (λ c κs. search needs) returns returns-2)

@@ -15,7 +15,8 @@ use Rattle.sound.specs.Range.{Typed}
 use Rattle.sound.proofs.audio.Audio as Row
 use Rattle.sound.proofs.audio.Audio.Laws as RowLaws
 
-bytes-fit : (xs : List ℕ) (us : List Val) → shadow (each (u8-field .row .Denot) (u8-field .row .own) (map (λ v. v) xs) us) → (i : ℕ) → getD xs i 0 < 256
+bytes-fit : (xs : List ℕ) (us : List Val) → shadow (each (u8-field .row .Denot) (u8-field .row .own) (map (λ v. v) xs) us) → (i : ℕ)
+    → getD xs i 0 < 256
 bytes-fit [] us s i = omega arith
 bytes-fit (x ∷ xs) [] s i = absurd s
 bytes-fit (x ∷ xs) (u ∷ us) s zero = s .0 .1

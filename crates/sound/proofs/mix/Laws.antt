@@ -25,7 +25,8 @@ unfolding sumFrom total
 sum-exact [] t h = let e : t + 0 ≡ t = omega arith in rw e
 sum-exact (k ∷ ks) t h =
     let e : t + (k + total ks) ≡ t + k + total ks = omega arith in
-    ap (λ (x : Float). sumFrom x (map whole ks)) (add-whole t k (omega arith) (omega arith)) ∙ sum-exact ks (t + k) (omega arith) ∙ ap whole (sym e)
+    ap (λ (x : Float). sumFrom x (map whole ks)) (add-whole t k (omega arith) (omega arith)) ∙ sum-exact ks (t + k) (omega arith)
+    ∙ ap whole (sym e)
 
 drop-map : (n : ℕ) (ks : List ℕ) → drop n (map whole ks) ≡ map whole (drop n ks)
 drop-map zero ks = refl
@@ -40,7 +41,8 @@ mix-rounds ks c h l =
     let t = total (drop (7 - c) ks) in
     let z : 0 + t ≡ t = omega arith in
     let e : sumFrom (whole 0) (map whole (drop (7 - c) ks)) ≡ whole t = sum-exact (drop (7 - c) ks) 0 (omega arith) ∙ ap whole z in
-    rw (zero-bits, drop-map (7 - c) ks) (ap (λ (x : Float). div binary32 x (whole (c + 1))) e ∙ div-whole t (c + 1) (omega arith) h (omega arith))
+    rw (zero-bits, drop-map (7 - c) ks)
+    (ap (λ (x : Float). div binary32 x (whole (c + 1))) e ∙ div-whole t (c + 1) (omega arith) h (omega arith))
 
 -- a small whole number over 1, 2, 4 or 8 is a float
 power-exact : (size j : ℕ) → size ≤ 30600 → j ≤ 3 → HasValue (round binary32 false size (2 ^ j)) false size (2 ^ j)
@@ -60,10 +62,12 @@ mix-exact ks c j h l p e = rw (mix-rounds ks c (omega arith) l, e) (power-exact 
 -- so that `out` times the number of channels is the whole sum again
 pub mix-back : (ks : List ℕ) (c j : ℕ) → total (drop (7 - c) ks) ≤ 30600 → c < 8 → j ≤ 3 → c + 1 ≡ 2 ^ j
     → mul binary32 (mixOf (map whole ks) c) (whole (c + 1)) ≡ whole (total (drop (7 - c) ks))
-mix-back ks c j h l p e = mul-back (mixOf (map whole ks) c) (total (drop (7 - c) ks)) (c + 1) (omega arith) (omega arith) (mix-exact ks c j h l p e)
+mix-back ks c j h l p e =
+    mul-back (mixOf (map whole ks) c) (total (drop (7 - c) ks)) (c + 1) (omega arith) (omega arith) (mix-exact ks c j h l p e)
 
 -- the Rust's sum starts at negative zero, which never shows
-pub sum-start : (k : ℕ) (ks : List ℕ) → k ≤ 16777216 → sumFrom (ofBits binary32 0x80000000) (map whole (k ∷ ks)) ≡ sumFrom (ofBits binary32 0) (map whole (k ∷ ks))
+pub sum-start : (k : ℕ) (ks : List ℕ) → k ≤ 16777216 → sumFrom (ofBits binary32 0x80000000) (map whole (k ∷ ks)) ≡ sumFrom
+    (ofBits binary32 0) (map whole (k ∷ ks))
 unfolding sumFrom ofBits
 sum-start k ks h = ap (λ (x : Float). sumFrom x (map whole ks)) (minus-zero k h)
 
@@ -109,11 +113,13 @@ sum-is ks c h =
 
 -- taking the old output off the sum and putting the new one on gives the bits of the sum of the new outputs
 pub sum-again : (ks : List ℕ) (c k n : ℕ) → length ks ≡ 8 → c < 8 → k < 8 → total (drop (7 - c) ks) ≤ 30600 → n ≤ 3825
-    → sumOf (set (map whole ks) k (whole n)) c ≡ resumOf (sumOf (map whole ks) c) (getD (map whole ks) k nan) (whole n) (leb 7 (k + c))
+    → sumOf (set (map whole ks) k (whole n)) c ≡ resumOf (sumOf (map whole ks) c) (getD (map whole ks) k nan) (whole n)
+    (leb 7 (k + c))
 unfolding sumOf
 sum-again ks c k n e l h b s = go (leb 7 (k + c)) refl
   where
-    go : (u : Bool) → leb 7 (k + c) ≡ u → sumOf (set (map whole ks) k (whole n)) c ≡ resumOf (sumOf (map whole ks) c) (getD (map whole ks) k nan) (whole n) u
+    go : (u : Bool) → leb 7 (k + c) ≡ u → sumOf (set (map whole ks) k (whole n)) c ≡ resumOf (sumOf (map whole ks) c)
+        (getD (map whole ks) k nan) (whole n) u
     go true u =
         let g : 7 - c ≤ k = omega (arith, leb-true 7 (k + c) u) in
         let o = getD ks k 0 in

@@ -51,7 +51,8 @@ pub clock-due : (a : Audio) → a .disabled ≡ false → a .«update_counter» 
 unfolding soundClock updated updateChannel
 clock-due a d e = rw (d, eq-eqb _ _ e)
 
-pub clock-quiet : (a : Audio) → a .disabled ≡ false → (a .«update_counter» + 1 ≡ 15 → ⊥) → soundClock a ≡ withCounter a (a .«update_counter» + 1)
+pub clock-quiet : (a : Audio) → a .disabled ≡ false → (a .«update_counter» + 1 ≡ 15 → ⊥) → soundClock a ≡ withCounter a
+    (a .«update_counter» + 1)
 unfolding soundClock
 clock-quiet a d e = rw (d, ne-eqb _ _ e)
 
@@ -92,11 +93,13 @@ run-on (suc n) a d h =
     (λ (e : u + 1 ≡ 15).
     let q : (u + suc n) / 15 ≡ suc ((0 + n) / 15) = omega arith in
     let r : (u + suc n) % 15 ≡ (0 + n) % 15 = omega arith in
-    rw (clock-due a d e, q, r) (run-on n (withCounter (updated a) 0) d (omega arith) ∙ updates-counter ((0 + n) / 15) (updated a) 0 ((0 + n) % 15)))
+    rw (clock-due a d e, q, r) (run-on n (withCounter (updated a) 0) d (omega arith)
+    ∙ updates-counter ((0 + n) / 15) (updated a) 0 ((0 + n) % 15)))
     (λ (l : u + 1 < 15).
     let q : (u + suc n) / 15 ≡ (u + 1 + n) / 15 = omega arith in
     let r : (u + suc n) % 15 ≡ (u + 1 + n) % 15 = omega arith in
-    rw (clock-quiet a d (λ e. omega arith), q, r) (run-on n (withCounter a (u + 1)) d (omega arith) ∙ updates-counter ((u + 1 + n) / 15) a (u + 1) ((u + 1 + n) % 15)))
+    rw (clock-quiet a d (λ e. omega arith), q, r)
+    (run-on n (withCounter a (u + 1)) d (omega arith) ∙ updates-counter ((u + 1 + n) / 15) a (u + 1) ((u + 1 + n) % 15)))
     (eq-or-lt-of-le {n = u + 1} {m = 15} (omega arith))
 
 pub samples-on : (n : ℕ) (a : Audio) → a .disabled ≡ false → a .«update_counter» ≤ 14
@@ -111,17 +114,20 @@ samples-on (suc n) a d h =
     (λ (e : u + 1 ≡ 15).
     let q : (u + suc n) / 15 ≡ suc ((0 + n) / 15) = omega arith in
     rw (sample-due a d e, clock-due a d e, q)
-    (ap (λ (l : List Float). outputOf (updated a .out) ∷ l) (samples-on n (withCounter (updated a) 0) d (omega arith) ∙ outputs-counter ((0 + n) / 15) (updated a) 0)))
+    (ap (λ (l : List Float). outputOf (updated a .out) ∷ l)
+    (samples-on n (withCounter (updated a) 0) d (omega arith) ∙ outputs-counter ((0 + n) / 15) (updated a) 0)))
     (λ (l : u + 1 < 15).
     let q : (u + suc n) / 15 ≡ (u + 1 + n) / 15 = omega arith in
     let ne : u + 1 ≡ 15 → ⊥ = λ e. omega arith in
-    rw (sample-quiet a d ne, clock-quiet a d ne, q) (samples-on n (withCounter a (u + 1)) d (omega arith) ∙ outputs-counter ((u + 1 + n) / 15) a (u + 1)))
+    rw (sample-quiet a d ne, clock-quiet a d ne, q)
+    (samples-on n (withCounter a (u + 1)) d (omega arith) ∙ outputs-counter ((u + 1 + n) / 15) a (u + 1)))
     (eq-or-lt-of-le {n = u + 1} {m = 15} (omega arith))
 
 -- ---- closed forms
 
 -- floor((u + n) / 15) samples, or 0 when disabled
-pub made-closed : (n : ℕ) (a : Audio) → a .«update_counter» ≤ 14 → length (samplesOf n a) ≡ cond (a .disabled) 0 ((a .«update_counter» + n) / 15)
+pub made-closed : (n : ℕ) (a : Audio) → a .«update_counter» ≤ 14 → length (samplesOf n a) ≡ cond (a .disabled) 0
+    ((a .«update_counter» + n) / 15)
 made-closed n a h = go (a .disabled) refl
   where
     go : (d : Bool) → a .disabled ≡ d → length (samplesOf n a) ≡ cond d 0 ((a .«update_counter» + n) / 15)
@@ -133,7 +139,8 @@ pub counter-closed : (n : ℕ) (a : Audio) → a .«update_counter» ≤ 14
     → soundRun n a .«update_counter» ≡ cond (a .disabled) (a .«update_counter») ((a .«update_counter» + n) % 15)
 counter-closed n a h = go (a .disabled) refl
   where
-    go : (d : Bool) → a .disabled ≡ d → soundRun n a .«update_counter» ≡ cond d (a .«update_counter») ((a .«update_counter» + n) % 15)
+    go : (d : Bool) → a .disabled ≡ d → soundRun n a .«update_counter» ≡ cond d (a .«update_counter»)
+        ((a .«update_counter» + n) % 15)
     go true e = ap (λ (x : Audio). x .«update_counter») (run-off n a e)
     go false e = ap (λ (x : Audio). x .«update_counter») (run-on n a e h)
 

@@ -18,50 +18,31 @@ Inv-loop ram samples clocks room a₀ i₀ a i = (i ≤ 128) × (InRange a × ((
 abbrev μ-loop : tie.MeasureT-loop
 μ-loop ram samples clocks room a₀ i₀ a i = 128 - i
 
-returns : tie.Need-returns Inv-loop μ-loop
-returns c = search needs
-
-returns-2 : tie.Need-returns-2 Inv-loop μ-loop
-returns-2 c = search needs
-
-new-requires : tie.Need-new-requires Inv-loop μ-loop
-new-requires c κs = search needs
-
 loop-holds : tie.Need-loop-holds Inv-loop μ-loop
 loop-holds c = rw (c .new .ensures) (search needs, (fresh-range, (refl, refl)))
-
-shared-slice-read-a : tie.Need-shared-slice-read-a Inv-loop μ-loop
-shared-slice-read-a c = search needs
-
-element-write-a : tie.Need-element-write-a Inv-loop μ-loop
-element-write-a c = search needs
-
-add-i : tie.Need-add-i Inv-loop μ-loop
-add-i c = search needs
 
 loop-less : tie.Need-loop-less Inv-loop μ-loop
 loop-less c = omega arith
 
 loop-again : tie.Need-loop-again Inv-loop μ-loop
 loop-again c =
-    let g = c .before .before .loop .inv in
+    let c2 = c .before .before in
+    let g = c2 .loop .inv in
     let r = g .1 .0 in
-    (search needs, (other-range (c .before .before .loop .a) _ (r .counter) (r .channel) (r .address) refl refl refl r, (g .1 .1 .0, g .1 .1 .1)))
+    (search needs, (other-range (c2 .loop .a) _ (r .counter) (r .channel) (r .address) refl refl refl r, (g .1 .1 .0, g .1 .1 .1)))
 
 run-requires : tie.Need-run-requires Inv-loop μ-loop
 run-requires c κs =
-    let a = c .before .before .loop .a in
-    let g = c .before .before .loop .inv in
-    let n = c .before .before .before .before .before .before .before .before .args .clocks in
+    let c2 = c .before .before in let c4 = c2 .before .before in let c8 = c4 .before .before .before .before in
+    let a = c2 .loop .a in
+    let g = c2 .loop .inv in
+    let n = c8 .args .clocks in
     let u : a .«update_counter» + n ≡ n = omega (arith, g .1 .1 .1) in
     let e : length (samplesOf n a) ≡ n / 15 = made-closed n a (g .1 .0 .counter) ∙ rw (g .1 .1 .0, u) in
-    (g .1 .0, omega (arith, e, c .before .before .before .before .if2 .left))
+    (g .1 .0, omega (arith, e, c4 .if2 .left))
 
 same-length : tie.Need-same-length Inv-loop μ-loop
 same-length c = c .before .before .run .kept .1 .1 .0
-
-returns-3 : tie.Need-returns-3 Inv-loop μ-loop
-returns-3 c = search needs
 
 pub sound-bench-run-spec : {M : Type 1} → statement M
 sound-bench-run-spec =
@@ -69,15 +50,15 @@ sound-bench-run-spec =
     (tie.spec
     Inv-loop
     μ-loop
-    returns
-    returns-2
-    new-requires
+    (λ c. search needs)  -- returns
+    (λ c. search needs)  -- returns-2
+    (λ c κs. search needs)  -- new-requires
     loop-holds
-    shared-slice-read-a
-    element-write-a
-    add-i
+    (λ c. search needs)  -- shared-slice-read-a
+    (λ c. search needs)  -- element-write-a
+    (λ c. search needs)  -- add-i
     loop-less
     loop-again
     run-requires
     same-length
-    returns-3)
+    (λ c. search needs))  -- returns-3

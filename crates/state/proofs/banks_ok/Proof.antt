@@ -24,7 +24,9 @@ array-read-bank : tie.Need-array-read-bank Inv-loop μ-loop
 array-read-bank c = omega arith
 
 returns : tie.Need-returns Inv-loop μ-loop
-returns c = let l = c .before .before .loop in sym (every-fails 3 (bankTest (c .before .before .before .args .t1)) (l .i) (omega arith) (lt-leb _ _ (c .if1 .taken)))
+returns c =
+    let c2 = c .before .before in let c3 = c2 .before in
+    let l = c2 .loop in sym (every-fails 3 (bankTest (c3 .args .t1)) (l .i) (omega arith) (lt-leb _ _ (c .if1 .taken)))
 
 add-i : tie.Need-add-i Inv-loop μ-loop
 add-i c = omega arith
@@ -33,7 +35,9 @@ loop-less : tie.Need-loop-less Inv-loop μ-loop
 loop-less c = omega arith
 
 loop-again : tie.Need-loop-again Inv-loop μ-loop
-loop-again c = let l = c .before .before .loop in (omega arith, every-more (l .i) (bankTest (c .before .before .before .args .t1)) (l .inv .1) (le-leb _ _ (c .if1 .left)))
+loop-again c =
+    let c2 = c .before .before in let c3 = c2 .before in
+    let l = c2 .loop in (omega arith, every-more (l .i) (bankTest (c3 .args .t1)) (l .inv .1) (le-leb _ _ (c .if1 .left)))
 
 returns-2 : tie.Need-returns-2 Inv-loop μ-loop
 returns-2 c = let e : c .before .loop .i ≡ 3 = omega arith in sym (rw e at (c .before .loop .inv .1))

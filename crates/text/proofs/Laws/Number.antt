@@ -27,7 +27,8 @@ unfolding digitsAfter
 digits-end base n l i h = rw (drop-end l i h)
 
 -- the code's test for room, by a quotient
-pub has-room : (v b d : ℕ) → 0 < b → d < 18446744073709551616 → v ≤ (18446744073709551615 - d) / b → v * b + d < 18446744073709551616
+pub has-room : (v b d : ℕ) → 0 < b → d < 18446744073709551616 → v ≤ (18446744073709551615 - d) / b
+    → v * b + d < 18446744073709551616
 has-room v b d p q h = omega (arith, le-div-iff-mul-le {k = b} {x = v} {y = 18446744073709551615 - d} p .0 h)
 
 pub no-room : (v b d : ℕ) → 0 < b → (18446744073709551615 - d) / b < v → 18446744073709551616 ≤ v * b + d

@@ -21,45 +21,22 @@ held-lt N n held e = rw e (mod-lt N (pow-pos n))
 byte : (N n held : ℕ) → n < 8 → held ≡ N % 2 ^ n → held < 256
 byte N n held l e = lt-of-lt-of-le (held-lt N n held e) (pow-mono {i = n} {j = 8} (omega arith))
 
-add-k : tie.Need-add-k
-add-k c = search needs
-
-sub-k : tie.Need-sub-k
-sub-k c = search needs
-
 load-requires : tie.Need-load-requires
 load-requires c κs =
     let r = c .before .args .r in
     let b = c .before .pre .0 in
     (omega arith, byte (wordOf (take (r .at) (c .before .args .img .now))) (r .n) (r .acc) (b .few) (b .last), omega arith)
 
-mul-m : tie.Need-mul-m
-mul-m c = search needs
-
-add-m : tie.Need-add-m
-add-m c = search needs
-
-sub-m : tie.Need-sub-m
-sub-m c = search needs
-
-shr-v : tie.Need-shr-v
-shr-v c = search needs
-
-low-requires : tie.Need-low-requires
-low-requires c κs = search needs
-
-add-t11 : tie.Need-add-t11
-add-t11 c = search needs
-
 returns : tie.Need-returns
 unfolding bitsRead total
 returns c =
-    let s = c .before .before .before in
+    let c1 = c .before in let c3 = c1 .before .before in
+    let s = c3 in
     let r = s .args .r in
     let w = s .args .width in
     let k = (w + 7 - r .n) / 8 in
     let m = r .n + k * 8 - w in
-    let l = c .before .load in
+    let l = c1 .load in
     let img = s .args .img .now in
     let e : m + w ≡ r .n + k * 8 = omega arith in
     let all = get-bits img (r .at) (r .n) (r .acc) w k m (l .result) e (omega arith) (s .pre .0 .last) (l .ensures .0) in
@@ -71,11 +48,25 @@ returns c =
         last = c .low .ensures ∙ sym (ap (λ (x : ℕ). x % 2 ^ m) all ∙ low _ m under);
       };
       pos = omega arith;
-      fit = (got-lt (r .acc) (r .n) w k m (l .result) e (held-lt (wordOf (take (r .at) img)) (r .n) (r .acc) (s .pre .0 .last)) (l .ensures .1), tt);
+      fit = (
+        got-lt (r .acc) (r .n) w k m (l .result) e (held-lt (wordOf (take (r .at) img)) (r .n) (r .acc) (s .pre .0 .last))
+            (l .ensures .1),
+        tt,
+      );
       bits = ap (λ (x : ℕ). x / 2 ^ m) all ∙ high _ m under ∙ after-one _ w _;
     }
 
 pub get-spec : {M : Type 1} → statement M
 get-spec =
     tie.close
-    (tie.spec add-k sub-k load-requires mul-m add-m sub-m shr-v low-requires add-t11 returns)
+    (tie.spec
+    (λ c. search needs)  -- add-k
+    (λ c. search needs)  -- sub-k
+    load-requires
+    (λ c. search needs)  -- mul-m
+    (λ c. search needs)  -- add-m
+    (λ c. search needs)  -- sub-m
+    (λ c. search needs)  -- shr-v
+    (λ c κs. search needs)  -- low-requires
+    (λ c. search needs)  -- add-t11
+    returns)

@@ -7,20 +7,13 @@ use borrow.Author.Needs.{needs}
 use Rattle.bits.proofs.cursor.get_bytes.Statement.{statement}
 use Rattle.bits.proofs.cursor.get_bytes.Tie as tie
 
-copy-from-requires : tie.Need-copy-from-requires
-copy-from-requires c κs = search needs
-
-add-t9 : tie.Need-add-t9
-add-t9 c = search needs
-
-same-length : tie.Need-same-length
-same-length c = search needs
-
 returns : tie.Need-returns
 returns c =
-    let s = c .before .before .before .before .before .before in
-    bytes-read (s .args .img .now) (s .args .r) _ (c .before .before .copy-from .last .1 .1 .0) (length (s .args .xs .now)) (s .pre .0) (s .pre .1) (s .pre .2)
-    (λ i. c .before .before .before .before .before .shared-slice-known .given i .fits) (c .before .before .copy-from .ensures) refl refl (omega arith)
+    let c2 = c .before .before in let c5 = c2 .before .before .before in let c6 = c5 .before in
+    let s = c6 in
+    bytes-read (s .args .img .now) (s .args .r) _ (c2 .copy-from .last .1 .1 .0) (length (s .args .xs .now)) (s .pre .0) (s .pre .1)
+    (s .pre .2)
+    (λ i. c5 .shared-slice-known .given i .fits) (c2 .copy-from .ensures) refl refl (omega arith)
 
 pub get-bytes-spec : {M : Type 1} → statement M
-get-bytes-spec = tie.close (tie.spec copy-from-requires add-t9 same-length returns)
+get-bytes-spec = tie.close (tie.spec (λ c κs. search needs) (λ c. search needs) (λ c. search needs) returns)

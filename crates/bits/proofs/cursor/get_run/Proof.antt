@@ -26,17 +26,21 @@ loop-holds c =
 
 get-requires : tie.Need-get-requires Inv-loop μ-loop
 get-requires c κs =
-    let l = c .before .loop in
-    let s = c .before .before .before .before in
-    let w = s .args .width in
-    (l .inv .2 .behind, (omega arith, omega (arith, l .inv .2 .pos, total-replicate (l .i) w, room (l .i) (length (s .args .xs .now)) w (omega arith))))
+    let c1 = c .before in let c4 = c1 .before .before .before in
+    let l = c1 .loop in
+    let s = c4 in
+    let w = s .args .width in (
+      l .inv .2 .behind,
+      (
+        omega arith,
+        omega (arith, l .inv .2 .pos, total-replicate (l .i) w, room (l .i) (length (s .args .xs .now)) w (omega arith)),
+      ),
+    )
 
 cast-xs : tie.Need-cast-xs Inv-loop μ-loop
 cast-xs c =
-    record { fits = lt-of-lt-of-le (c .before .get .ensures .fit .0) (pow-mono {i = c .before .before .before .before .before .before .args .width} {j = 32} (omega arith)) }
-
-mul-xs : tie.Need-mul-xs Inv-loop μ-loop
-mul-xs c = search needs
+    let c1 = c .before in let c6 = c1 .before .before .before .before .before in
+    record { fits = lt-of-lt-of-le (c1 .get .ensures .fit .0) (pow-mono {i = c6 .args .width} {j = 32} (omega arith)) }
 
 slice-write-xs : tie.Need-slice-write-xs Inv-loop μ-loop
 slice-write-xs c = omega arith
@@ -49,13 +53,15 @@ loop-less c = omega arith
 
 loop-again : tie.Need-loop-again Inv-loop μ-loop
 loop-again c =
-    let l = c .before .before .before .before .loop in
-    let s = c .before .before .before .before .before .before .before in
-    let g = c .before .before .get in
-    (rw length-set (omega arith), length-set (l .xs) (l .i) (g .result .v) ∙ l .inv .1, read-suc (s .args .img .now) (s .args .r) (l .c) (g .result .next) (s .args .width) (l .xs) (l .i) (g .result .v) (omega arith) (l .inv .2) (g .ensures))
-
-same-length : tie.Need-same-length Inv-loop μ-loop
-same-length c = search needs
+    let c2 = c .before .before in let c4 = c2 .before .before in let c7 = c4 .before .before .before in
+    let l = c4 .loop in
+    let s = c7 in
+    let g = c2 .get in (
+      rw length-set (omega arith),
+      length-set (l .xs) (l .i) (g .result .v) ∙ l .inv .1,
+      read-suc (s .args .img .now) (s .args .r) (l .c) (g .result .next) (s .args .width) (l .xs) (l .i) (g .result .v)
+          (omega arith) (l .inv .2) (g .ensures),
+    )
 
 returns : tie.Need-returns Inv-loop μ-loop
 returns c =
@@ -73,10 +79,10 @@ get-run-spec =
     loop-holds
     get-requires
     cast-xs
-    mul-xs
+    (λ c. search needs)  -- mul-xs
     slice-write-xs
     add-i
     loop-less
     loop-again
-    same-length
+    (λ c. search needs)  -- same-length
     returns)

@@ -16,41 +16,22 @@ use Rattle.bits.proofs.cursor.Laws.{acc-exact, acc-lt, put-bits, fits63
 use Rattle.bits.proofs.cursor.put.Statement.{statement}
 use Rattle.bits.proofs.cursor.put.Tie as tie
 
-add-n : tie.Need-add-n
-add-n c = search needs
-
-shl-acc : tie.Need-shl-acc
-shl-acc c = search needs
-
 add-acc : tie.Need-add-acc
 add-acc c =
-    let a = c .before .before .args in
-    let h = c .before .before .pre .0 in
+    let c2 = c .before .before in
+    let a = c2 .args in
+    let h = c2 .pre .0 in
     record {
       fits =
           rw (acc-exact (a .w .acc) (a .w .n) (a .width) (h .few) (omega arith) (h .small))
-          (fits63 _ (a .w .n + a .width) (acc-lt (a .w .acc) (a .w .n) (a .width) (a .v) (h .small) (c .before .before .pre .1 .1)) (omega arith));
+          (fits63 _ (a .w .n + a .width) (acc-lt (a .w .acc) (a .w .n) (a .width) (a .v) (h .small) (c2 .pre .1 .1)) (omega arith));
     }
-
-shr-store : tie.Need-shr-store
-shr-store c = search needs
-
-store-requires : tie.Need-store-requires
-store-requires c κs = search needs
-
-low-requires : tie.Need-low-requires
-low-requires c κs = search needs
-
-add-t16 : tie.Need-add-t16
-add-t16 c = search needs
-
-same-length : tie.Need-same-length
-same-length c = search needs
 
 returns : tie.Need-returns
 unfolding bitsWritten total
 returns c =
-    let s = c .before .before .before .before .before .before .before in
+    let c3 = c .before .before .before in let c7 = c3 .before .before .before .before in
+    let s = c7 in
     let a = s .args in
     let n = a .w .n + a .width in
     let acc : ℕ = (a .w .acc * 2 ^ a .width) % 2 ^ 64 + a .v in
@@ -61,23 +42,27 @@ returns c =
       pos = omega arith;
       bits =
           rw (c .low .ensures)
-          (put-bits (a .img .now) (c .before .before .before .store .last .0) (a .w .at) (a .w .n) (a .w .acc) (a .width) (a .v) (n / 8) (n % 8) acc
-          (omega arith) (omega arith) (s .pre .0 .small) (s .pre .1 .1) e (c .before .before .before .store .ensures)
+          (put-bits (a .img .now) (c3 .store .last .0) (a .w .at) (a .w .n) (a .w .acc) (a .width) (a .v) (n / 8) (n % 8) acc
+          (omega arith) (omega arith) (s .pre .0 .small) (s .pre .1 .1) e (c3 .store .ensures)
           ∙ after-one _ (a .width) (a .v));
-      rest = ap (drop (a .w .at + n / 8)) (c .before .before .before .store .ensures) ∙ drop-paste (a .img .now) (a .w .at) (bytesOf (n / 8) (acc / 2 ^ (n % 8))) (n / 8) (omega arith) (rw length-bytes (le-refl (n / 8)));
-      len = ap length (c .before .before .before .store .ensures) ∙ length-paste (a .img .now) (a .w .at) (bytesOf (n / 8) (acc / 2 ^ (n % 8))) (n / 8) (omega arith) (rw length-bytes (le-refl (n / 8)));
+      rest = ap (drop (a .w .at + n / 8)) (c3 .store .ensures)
+          ∙ drop-paste (a .img .now) (a .w .at) (bytesOf (n / 8) (acc / 2 ^ (n % 8))) (n / 8) (omega arith)
+          (rw length-bytes (le-refl (n / 8)));
+      len = ap length (c3 .store .ensures)
+          ∙ length-paste (a .img .now) (a .w .at) (bytesOf (n / 8) (acc / 2 ^ (n % 8))) (n / 8) (omega arith)
+          (rw length-bytes (le-refl (n / 8)));
     }
 
 pub put-spec : {M : Type 1} → statement M
 put-spec =
     tie.close
     (tie.spec
-    add-n
-    shl-acc
+    (λ c. search needs)  -- add-n
+    (λ c. search needs)  -- shl-acc
     add-acc
-    shr-store
-    store-requires
-    low-requires
-    add-t16
-    same-length
+    (λ c. search needs)  -- shr-store
+    (λ c κs. search needs)  -- store-requires
+    (λ c κs. search needs)  -- low-requires
+    (λ c. search needs)  -- add-t16
+    (λ c. search needs)  -- same-length
     returns)

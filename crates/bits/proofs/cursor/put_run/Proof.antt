@@ -12,7 +12,8 @@ use Rattle.bits.proofs.cursor.put_run.Statement.{statement}
 use Rattle.bits.proofs.cursor.put_run.Tie as tie
 
 abbrev Inv-loop : tie.InvT-loop
-Inv-loop img₀ width xs c₀ i₀ img c i = (i ≤ length xs) × (length img ≡ length img₀) × Wrote img₀ img c₀ c (replicate i width) (take i xs)
+Inv-loop img₀ width xs c₀ i₀ img c i =
+    (i ≤ length xs) × (length img ≡ length img₀) × Wrote img₀ img c₀ c (replicate i width) (take i xs)
 
 abbrev μ-loop : tie.MeasureT-loop
 μ-loop img₀ width xs c₀ i₀ img c i = length xs - i
@@ -22,9 +23,6 @@ loop-holds c =
     let s = c .before .before in
     (omega arith, refl, wrote-none (s .args .img .now) (s .args .w) (s .pre .0))
 
-mul-put : tie.Need-mul-put Inv-loop μ-loop
-mul-put c = search needs
-
 shared-slice-read-put : tie.Need-shared-slice-read-put Inv-loop μ-loop
 shared-slice-read-put c = omega arith
 
@@ -33,11 +31,18 @@ cast-put c = omega (arith, c .shared-slice-known2 .given (c .before .before .bef
 
 put-requires : tie.Need-put-requires Inv-loop μ-loop
 put-requires c κs =
-    let l = c .before .before .before .loop in
-    let s = c .before .before .before .before .before .before in
+    let c3 = c .before .before .before in let c6 = c3 .before .before .before in
+    let l = c3 .loop in
+    let s = c6 in
     let n = length (s .args .xs .now) in
-    let w = s .args .width in
-    (l .inv .2 .held, (omega arith, fit-at n w (s .args .xs .now) (l .i) (s .pre .1 .1) (omega arith), omega (arith, l .inv .2 .pos, total-replicate (l .i) w, room (l .i) n w (omega arith))))
+    let w = s .args .width in (
+      l .inv .2 .held,
+      (
+        omega arith,
+        fit-at n w (s .args .xs .now) (l .i) (s .pre .1 .1) (omega arith),
+        omega (arith, l .inv .2 .pos, total-replicate (l .i) w, room (l .i) n w (omega arith)),
+      ),
+    )
 
 add-i : tie.Need-add-i Inv-loop μ-loop
 add-i c = omega arith
@@ -47,12 +52,14 @@ loop-less c = omega arith
 
 loop-again : tie.Need-loop-again Inv-loop μ-loop
 loop-again c =
-    let l = c .before .before .before .before .before .before .loop in
-    let s = c .before .before .before .before .before .before .before .before .before in
-    (omega arith, omega arith, wrote-suc (s .args .img .now) (l .img) (c .before .before .put .last .0) (s .args .w) (l .c) (c .before .before .put .result) (s .args .width) (s .args .xs .now) (l .i) (omega arith) (l .inv .2) (c .before .before .put .ensures))
-
-same-length : tie.Need-same-length Inv-loop μ-loop
-same-length c = search needs
+    let c2 = c .before .before in let c6 = c2 .before .before .before .before in let c9 = c6 .before .before .before in
+    let l = c6 .loop in
+    let s = c9 in (
+      omega arith,
+      omega arith,
+      wrote-suc (s .args .img .now) (l .img) (c2 .put .last .0) (s .args .w) (l .c) (c2 .put .result)
+          (s .args .width) (s .args .xs .now) (l .i) (omega arith) (l .inv .2) (c2 .put .ensures),
+    )
 
 returns : tie.Need-returns Inv-loop μ-loop
 returns c =
@@ -67,12 +74,12 @@ put-run-spec =
     Inv-loop
     μ-loop
     loop-holds
-    mul-put
+    (λ c. search needs)  -- mul-put
     shared-slice-read-put
     cast-put
     put-requires
     add-i
     loop-less
     loop-again
-    same-length
+    (λ c. search needs)  -- same-length
     returns)

@@ -35,25 +35,31 @@ loop-less c = omega arith
 
 loop-again : tie.Need-loop-again Inv-loop μ-loop
 loop-again c =
-    let s = c .before .before .before .args in
-    let l = c .before .before .loop in
+    let c2 = c .before .before in let c3 = c2 .before in
+    let s = c3 .args in
+    let l = c2 .loop in
     let d = drop (s .at) (s .img .now) in
     let v = getD (s .img .now) (s .at + l .j) 0 in
     let i : l .j < length d = omega (arith, length-drop (s .at) (s .img .now)) in (
       rw length-set (omega arith),
-      rw (add-one (l .j), take-suc-set (l .xs) (l .j) v (omega arith), take-suc d (l .j) 0 i, getD-drop (s .at) (s .img .now) (l .j) 0, l .inv .1),
+      rw (
+        add-one (l .j),
+        take-suc-set (l .xs) (l .j) v (omega arith),
+        take-suc d (l .j) 0 i,
+        getD-drop (s .at) (s .img .now) (l .j) 0,
+        l .inv .1,
+      ),
       length-set (l .xs) _ _ ∙ l .inv .2,
     )
 
-same-length : tie.Need-same-length Inv-loop μ-loop
-same-length c = search needs
-
 returns : tie.Need-returns Inv-loop μ-loop
 returns c =
-    let l = c .before .loop in
+    let c1 = c .before in let c2 = c1 .before in
+    let l = c1 .loop in
     let e : l .j ≡ length (l .xs) = omega arith in
-    let f : l .j ≡ length (c .before .before .args .xs .now) = omega arith in
-    sym (take-length (l .xs)) ∙ ap (λ (k : ℕ). take k (l .xs)) (sym e) ∙ l .inv .1 ∙ ap (λ (k : ℕ). take k (drop (c .before .before .args .at) (c .before .before .args .img .now))) f
+    let f : l .j ≡ length (c2 .args .xs .now) = omega arith in
+    sym (take-length (l .xs)) ∙ ap (λ (k : ℕ). take k (l .xs)) (sym e) ∙ l .inv .1
+    ∙ ap (λ (k : ℕ). take k (drop (c2 .args .at) (c2 .args .img .now))) f
 
 pub copy-from-spec : {M : Type 1} → statement M
 copy-from-spec =
@@ -68,5 +74,5 @@ copy-from-spec =
     add-j
     loop-less
     loop-again
-    same-length
+    (λ c. search needs)  -- same-length
     returns)

@@ -36,16 +36,15 @@ loop-less c = omega arith
 
 loop-again : tie.Need-loop-again Inv-loop μ-loop
 loop-again c =
-    let s = c .before .before .before .args in
-    let l = c .before .before .loop in (
+    let c2 = c .before .before in let c3 = c2 .before in
+    let s = c3 .args in
+    let l = c2 .loop in (
       omega arith,
       ap (λ (i : List ℕ). set i (s .at + l .j) (getD (s .xs .now) (l .j) 0)) (l .inv .1)
-          ∙ paste-suc (s .img .now) (s .at) (s .xs .now) (l .j) 0 (omega arith) (omega arith) ∙ ap (paste (s .img .now) (s .at) (s .xs .now)) (sym (add-one (l .j))),
+          ∙ paste-suc (s .img .now) (s .at) (s .xs .now) (l .j) 0 (omega arith) (omega arith)
+          ∙ ap (paste (s .img .now) (s .at) (s .xs .now)) (sym (add-one (l .j))),
       length-set (l .img) _ _ ∙ l .inv .2,
     )
-
-same-length : tie.Need-same-length Inv-loop μ-loop
-same-length c = search needs
 
 returns : tie.Need-returns Inv-loop μ-loop
 returns c =
@@ -66,5 +65,5 @@ copy-to-spec =
     add-j
     loop-less
     loop-again
-    same-length
+    (λ c. search needs)  -- same-length
     returns)

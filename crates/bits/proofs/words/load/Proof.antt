@@ -18,7 +18,9 @@ loop-holds : tie.Need-loop-holds Inv-loop μ-loop
 loop-holds c = (omega arith, load-zero (c .args .acc) (c .args .img .now) (c .args .at), omega arith)
 
 mul-a : tie.Need-mul-a Inv-loop μ-loop
-mul-a c = omega (arith, load-fits (c .before .before .args .acc) (c .before .loop .j) (c .before .loop .a) (omega arith) (omega arith) (c .before .loop .inv .2))
+mul-a c =
+    let c1 = c .before in let c2 = c1 .before in
+    omega (arith, load-fits (c2 .args .acc) (c1 .loop .j) (c1 .loop .a) (omega arith) (omega arith) (c1 .loop .inv .2))
 
 add-a : tie.Need-add-a Inv-loop μ-loop
 add-a c = omega arith
@@ -31,9 +33,14 @@ cast-a c = omega (arith, c .shared-slice-known .given (c .before .before .before
 
 add-a-2 : tie.Need-add-a-2 Inv-loop μ-loop
 add-a-2 c =
-    let s = c .before .before .before in
-    let l = c .before .before .loop in
-    omega (arith, c .shared-slice-known .given (s .args .at + l .j), load-fits (s .args .acc) (l .j) (l .a) (omega arith) (omega arith) (l .inv .2))
+    let c2 = c .before .before in let c3 = c2 .before in
+    let s = c3 in
+    let l = c2 .loop in
+    omega (
+      arith,
+      c .shared-slice-known .given (s .args .at + l .j),
+      load-fits (s .args .acc) (l .j) (l .a) (omega arith) (omega arith) (l .inv .2),
+    )
 
 add-j : tie.Need-add-j Inv-loop μ-loop
 add-j c = omega arith
@@ -43,10 +50,15 @@ loop-less c = omega arith
 
 loop-again : tie.Need-loop-again Inv-loop μ-loop
 loop-again c =
-    let s = c .before .before .before in
-    let l = c .before .before .loop in
-    let b : getD (s .args .img .now) (s .args .at + l .j) 0 < 256 = omega (arith, c .shared-slice-known .given (s .args .at + l .j)) in
-    (omega arith, load-suc (s .args .acc) (l .a) (s .args .img .now) (s .args .at) (l .j) (omega arith) (l .inv .1), load-small (s .args .acc) (l .a) _ (l .j) (l .inv .2) b)
+    let c2 = c .before .before in let c3 = c2 .before in
+    let s = c3 in
+    let l = c2 .loop in
+    let b : getD (s .args .img .now) (s .args .at + l .j) 0 < 256 = omega
+    (arith, c .shared-slice-known .given (s .args .at + l .j)) in (
+      omega arith,
+      load-suc (s .args .acc) (l .a) (s .args .img .now) (s .args .at) (l .j) (omega arith) (l .inv .1),
+      load-small (s .args .acc) (l .a) _ (l .j) (l .inv .2) b,
+    )
 
 returns : tie.Need-returns Inv-loop μ-loop
 returns c =

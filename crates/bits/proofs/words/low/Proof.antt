@@ -7,9 +7,6 @@ use Rattle.bits.proofs.words.Laws.{one-shl}
 use Rattle.bits.proofs.words.low.Statement.{statement}
 use Rattle.bits.proofs.words.low.Tie as tie
 
-shl-m : tie.Need-shl-m
-shl-m c = search needs
-
 rem-result : tie.Need-rem-result
 rem-result c = rw (one-shl (c .args .k) (c .pre)) (pow-pos (c .args .k))
 
@@ -17,4 +14,4 @@ returns : tie.Need-returns
 returns c = ap (λ (m : ℕ). c .args .x % m) (one-shl (c .args .k) (c .pre))
 
 pub low-spec : {M : Type 1} → statement M
-low-spec = tie.close (tie.spec shl-m rem-result returns)
+low-spec = tie.close (tie.spec (λ c. search needs) rem-result returns)

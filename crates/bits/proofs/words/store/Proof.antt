@@ -49,8 +49,11 @@ loop-less c = omega arith
 loop-again : tie.Need-loop-again Inv-loop μ-loop
 loop-again c =
     let s = c .before .before .args in
-    let l = c .before .loop in
-    (omega arith, store-suc (s .img .now) (l .img) (s .at) (s .k) (s .x) (l .j) (omega arith) (omega arith) (l .inv .1), length-set (l .img) _ _ ∙ l .inv .2)
+    let l = c .before .loop in (
+      omega arith,
+      store-suc (s .img .now) (l .img) (s .at) (s .k) (s .x) (l .j) (omega arith) (omega arith) (l .inv .1),
+      length-set (l .img) _ _ ∙ l .inv .2,
+    )
 
 same-length : tie.Need-same-length Inv-loop μ-loop
 same-length c = omega arith

@@ -4,15 +4,9 @@ use Rattle.chr_registers.specs.Slots.{writeC800}
 use Rattle.chr_registers.proofs.slots.write_c800.Statement.{statement}
 use Rattle.chr_registers.proofs.slots.write_c800.Tie as tie
 
-maybe-set-board-requires : tie.Need-maybe-set-board-requires
-maybe-set-board-requires c κs = search needs
-
-write-nametable-requires : tie.Need-write-nametable-requires
-write-nametable-requires c κs = search needs
-
 returns : tie.Need-returns
 unfolding writeC800
 returns c = rw (c .write-nametable .ensures, c .before .maybe-set-board .ensures)
 
 pub write-c800-spec : {M : Type 1} → statement M
-write-c800-spec = tie.close (tie.spec maybe-set-board-requires write-nametable-requires returns)
+write-c800-spec = tie.close (tie.spec (λ c κs. search needs) (λ c κs. search needs) returns)

@@ -8,27 +8,55 @@ use Rattle.clocks.proofs.run.Laws.{sounds-state, sounds-samples, silent
 use Rattle.clocks.proofs.run.accepted_run.Statement.{statement}
 use Rattle.clocks.proofs.run.accepted_run.Tie as tie
 
-run-counter-requires : tie.Need-run-counter-requires
-run-counter-requires c κs = search needs
-
-num-requires : tie.Need-num-requires
-num-requires c κs = search needs
-
 returns : tie.Need-returns
 unfolding runGave
-returns c = let a = c .before .before .before .before .before .before .before .args in let p = ne-eqb _ _ (λ e. c .if1 .taken (c .before .num .ensures .0 ∙ e)) in (rw (c .before .before .before .before .before .before .before .pre, silent-state (a .n) (a .s) p, silent-samples (a .n) (a .s) p, rise-is (a .n) (a .s), c .before .before .before .run-counter .ensures .0, c .before .before .before .run-counter .ensures .1), rw (c .before .before .before .before .before .before .before .pre, silent-samples (a .n) (a .s) p))
+returns c =
+    let c1 = c .before in let c3 = c1 .before .before in let c7 = c3 .before .before .before .before in
+    let a = c7 .args in let p = ne-eqb _ _ (λ e. c .if1 .taken (c1 .num .ensures .0 ∙ e)) in (
+      rw (
+        c7 .pre,
+        silent-state (a .n) (a .s) p,
+        silent-samples (a .n) (a .s) p,
+        rise-is (a .n) (a .s),
+        c3 .run-counter .ensures .0,
+        c3 .run-counter .ensures .1,
+      ),
+      rw (c7 .pre, silent-samples (a .n) (a .s) p),
+    )
 
 run-sound-requires : tie.Need-run-sound-requires
-run-sound-requires c κs = let a = c .before .before .before .before .before .before .before .before .before .args in let g = run-good (a .s) (a .n) (length (a .samples .now)) (c .before .before .before .before .before .before .before .before .before .pre) in let p = eq-eqb _ _ (sym (c .before .before .before .num .ensures .0) ∙ c .before .before .if1 .left) in (sound-ok (a .s) (g .good), rw (← sounds-samples (a .n) (a .s) p) (g .enough))
-
-same-length : tie.Need-same-length
-same-length c = search needs
+run-sound-requires c κs =
+    let c2 = c .before .before in let c3 = c2 .before in let c9 = c3 .before .before .before .before .before .before in
+    let a = c9 .args in let g = run-good (a .s) (a .n) (length (a .samples .now)) (c9 .pre) in
+    let p = eq-eqb _ _ (sym (c3 .num .ensures .0) ∙ c2 .if1 .left) in
+    (sound-ok (a .s) (g .good), rw (← sounds-samples (a .n) (a .s) p) (g .enough))
 
 returns-2 : tie.Need-returns-2
 unfolding runGave
-returns-2 c = let a = c .before .before .before .before .before .before .before .before .before .before .before .before .before .args in let p = eq-eqb _ _ (sym (c .before .before .before .before .before .before .before .num .ensures .0) ∙ c .before .before .before .before .before .before .if1 .left) in let r = c .before .before .before .run-sound .ensures in (rw (c .before .before .before .before .before .before .before .before .before .before .before .before .before .pre, sounds-state (a .n) (a .s) p, sounds-samples (a .n) (a .s) p, rise-is (a .n) (a .s), c .before .before .before .before .before .before .before .before .before .run-counter .ensures .0, c .before .before .before .before .before .before .before .before .before .run-counter .ensures .1, r .0 .0, r .0 .1), rw (c .before .before .before .before .before .before .before .before .before .before .before .before .before .pre, sounds-samples (a .n) (a .s) p) (r .1))
+returns-2 c =
+    let c3 = c .before .before .before in let c6 = c3 .before .before .before in let c7 = c6 .before in
+    let c9 = c7 .before .before in let c13 = c9 .before .before .before .before in
+    let a = c13 .args in let p = eq-eqb _ _ (sym (c7 .num .ensures .0) ∙ c6 .if1 .left) in let r = c3 .run-sound .ensures in (
+      rw (
+        c13 .pre,
+        sounds-state (a .n) (a .s) p,
+        sounds-samples (a .n) (a .s) p,
+        rise-is (a .n) (a .s),
+        c9 .run-counter .ensures .0,
+        c9 .run-counter .ensures .1,
+        r .0 .0,
+        r .0 .1,
+      ),
+      rw (c13 .pre, sounds-samples (a .n) (a .s) p) (r .1),
+    )
 
 pub accepted-run-spec : {M : Type 1} → statement M
 accepted-run-spec =
     tie.close
-    (tie.spec run-counter-requires num-requires returns run-sound-requires same-length returns-2)
+    (tie.spec
+    (λ c κs. search needs)  -- run-counter-requires
+    (λ c κs. search needs)  -- num-requires
+    returns
+    run-sound-requires
+    (λ c. search needs)  -- same-length
+    returns-2)

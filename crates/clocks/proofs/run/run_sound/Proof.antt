@@ -5,13 +5,9 @@ use Rattle.clocks.proofs.run.run_sound.Statement.{statement}
 use Rattle.clocks.proofs.run.run_sound.Tie as tie
 
 run-requires : tie.Need-run-requires
-run-requires c κs = (sound-good (c .before .before .args .audio) _ (c .before .before .good .0) (c .before .before .pre .0), c .before .before .pre .1)
-
-same-length : tie.Need-same-length
-same-length c = search needs
-
-returns : tie.Need-returns
-returns c = search needs
+run-requires c κs =
+    let c2 = c .before .before in
+    (sound-good (c2 .args .audio) _ (c2 .good .0) (c2 .pre .0), c2 .pre .1)
 
 pub run-sound-spec : {M : Type 1} → statement M
-run-sound-spec = tie.close (tie.spec run-requires same-length returns)
+run-sound-spec = tie.close (tie.spec run-requires (λ c. search needs) (λ c. search needs))

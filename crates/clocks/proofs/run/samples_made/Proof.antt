@@ -6,24 +6,31 @@ use Rattle.clocks.proofs.run.Laws.{made-floor, counter-small}
 use Rattle.clocks.proofs.run.samples_made.Statement.{statement}
 use Rattle.clocks.proofs.run.samples_made.Tie as tie
 
-num-requires : tie.Need-num-requires
-num-requires c κs = search needs
-
 returns : tie.Need-returns
-returns c = sym (made-floor (c .before .before .before .args .n) (c .before .before .before .args .s) (counter-small _ (c .before .before .before .pre)) ∙ rw (ne-eqb _ _ (λ e. c .if1 .taken (c .before .num .ensures .0 ∙ e))))
+returns c =
+    let c1 = c .before in let c3 = c1 .before .before in
+    sym (made-floor (c3 .args .n) (c3 .args .s) (counter-small _ (c3 .pre))
+    ∙ rw (ne-eqb _ _ (λ e. c .if1 .taken (c1 .num .ensures .0 ∙ e))))
 
 returns-2 : tie.Need-returns-2
-returns-2 c = sym (made-floor (c .before .before .before .before .args .n) (c .before .before .before .before .args .s) (counter-small _ (c .before .before .before .before .pre)) ∙ rw (eq-eqb _ _ (sym (c .before .before .num .ensures .0) ∙ c .before .if1 .left), c .if2 .taken))
-
-cast-result : tie.Need-cast-result
-cast-result c = search needs
-
-add-result : tie.Need-add-result
-add-result c = search needs
+returns-2 c =
+    let c1 = c .before in let c2 = c1 .before in let c4 = c2 .before .before in
+    sym (made-floor (c4 .args .n) (c4 .args .s) (counter-small _ (c4 .pre))
+    ∙ rw (eq-eqb _ _ (sym (c2 .num .ensures .0) ∙ c1 .if1 .left), c .if2 .taken))
 
 returns-3 : tie.Need-returns-3
-returns-3 c = sym (made-floor (c .before .before .before .before .before .args .n) (c .before .before .before .before .before .args .s) (counter-small _ (c .before .before .before .before .before .pre)) ∙ rw (eq-eqb _ _ (sym (c .before .before .before .num .ensures .0) ∙ c .before .before .if1 .left), c .before .if2 .left))
+returns-3 c =
+    let c1 = c .before in let c2 = c1 .before in let c3 = c2 .before in let c5 = c3 .before .before in
+    sym (made-floor (c5 .args .n) (c5 .args .s) (counter-small _ (c5 .pre))
+    ∙ rw (eq-eqb _ _ (sym (c3 .num .ensures .0) ∙ c2 .if1 .left), c1 .if2 .left))
 
 pub samples-made-spec : {M : Type 1} → statement M
 samples-made-spec =
-    tie.close (tie.spec num-requires returns returns-2 cast-result add-result returns-3)
+    tie.close
+    (tie.spec
+    (λ c κs. search needs)  -- num-requires
+    returns
+    returns-2
+    (λ c. search needs)  -- cast-result
+    (λ c. search needs)  -- add-result
+    returns-3)

@@ -8,44 +8,14 @@ use borrow.Author.Needs.{needs}
 use Rattle.host.proofs.samples.put_sample.Statement.{statement}
 use Rattle.host.proofs.samples.put_sample.Tie as tie
 
-float-to-bits-b : tie.Need-float-to-bits-b
-float-to-bits-b c = search needs
-
-cast-bytes : tie.Need-cast-bytes
-cast-bytes c = search needs
-
-slice-write-bytes : tie.Need-slice-write-bytes
-slice-write-bytes c = search needs
-
-cast-bytes-2 : tie.Need-cast-bytes-2
-cast-bytes-2 c = search needs
-
-add-bytes : tie.Need-add-bytes
-add-bytes c = search needs
-
 slice-write-bytes-2 : tie.Need-slice-write-bytes-2
 slice-write-bytes-2 c = simp length-set (omega arith)
-
-cast-bytes-3 : tie.Need-cast-bytes-3
-cast-bytes-3 c = search needs
-
-add-bytes-2 : tie.Need-add-bytes-2
-add-bytes-2 c = search needs
 
 slice-write-bytes-3 : tie.Need-slice-write-bytes-3
 slice-write-bytes-3 c = simp length-set (omega arith)
 
-cast-bytes-4 : tie.Need-cast-bytes-4
-cast-bytes-4 c = search needs
-
-add-bytes-3 : tie.Need-add-bytes-3
-add-bytes-3 c = search needs
-
 slice-write-bytes-4 : tie.Need-slice-write-bytes-4
 slice-write-bytes-4 c = simp length-set (omega arith)
-
-same-length : tie.Need-same-length
-same-length c = search needs
 
 returns : tie.Need-returns
 returns c =
@@ -58,17 +28,17 @@ pub put-sample-spec : {M : Type 1} → statement M
 put-sample-spec =
     tie.close
     (tie.spec
-    float-to-bits-b
-    cast-bytes
-    slice-write-bytes
-    cast-bytes-2
-    add-bytes
+    (λ c. search needs)  -- float-to-bits-b
+    (λ c. search needs)  -- cast-bytes
+    (λ c. search needs)  -- slice-write-bytes
+    (λ c. search needs)  -- cast-bytes-2
+    (λ c. search needs)  -- add-bytes
     slice-write-bytes-2
-    cast-bytes-3
-    add-bytes-2
+    (λ c. search needs)  -- cast-bytes-3
+    (λ c. search needs)  -- add-bytes-2
     slice-write-bytes-3
-    cast-bytes-4
-    add-bytes-3
+    (λ c. search needs)  -- cast-bytes-4
+    (λ c. search needs)  -- add-bytes-3
     slice-write-bytes-4
-    same-length
+    (λ c. search needs)  -- same-length
     returns)

@@ -30,10 +30,11 @@ shared-slice-read-put-sample c = omega arith
 
 put-sample-requires : tie.Need-put-sample-requires Inv-loop μ-loop
 put-sample-requires c κs =
-    let s = c .before .before .before .before .before .before in
-    let l = c .before .before .before .loop in
+    let c2 = c .before .before in let c3 = c2 .before in let c6 = c3 .before .before .before in
+    let s = c6 in
+    let l = c3 .loop in
     let e = ap length (l .inv .1) ∙ put-length (s .args .samples .now) (s .args .bytes .now) (l .j) (omega arith) (omega arith) in
-    (omega (arith, e), s .pre .1 (l .j) (c .before .before .loop-test .taken))
+    (omega (arith, e), s .pre .1 (l .j) (c2 .loop-test .taken))
 
 add-j : tie.Need-add-j Inv-loop μ-loop
 add-j c = omega arith
@@ -43,14 +44,20 @@ loop-less c = omega arith
 
 loop-again : tie.Need-loop-again Inv-loop μ-loop
 loop-again c =
-    let s = c .before .before .before .before .before .before .before .before .before in
-    let l = c .before .before .before .before .before .before .loop in
-    (omega arith, c .before .before .put-sample .ensures ∙ rw (l .inv .1) (put-more (s .args .samples .now) (s .args .bytes .now) (l .j) (omega arith) (omega arith)))
+    let c2 = c .before .before in let c6 = c2 .before .before .before .before in let c9 = c6 .before .before .before in
+    let s = c9 in
+    let l = c6 .loop in (
+      omega arith,
+      c2 .put-sample .ensures
+          ∙ rw (l .inv .1) (put-more (s .args .samples .now) (s .args .bytes .now) (l .j) (omega arith) (omega arith)),
+    )
 
 same-length : tie.Need-same-length Inv-loop μ-loop
 same-length c =
-    let s = c .before .before .before .before in
-    ap length (c .before .loop .inv .1) ∙ put-length (s .args .samples .now) (s .args .bytes .now) (c .before .loop .j) (omega arith) (omega arith)
+    let c1 = c .before in let c4 = c1 .before .before .before in
+    let s = c4 in
+    ap length (c1 .loop .inv .1) ∙ put-length (s .args .samples .now) (s .args .bytes .now) (c1 .loop .j) (omega arith)
+    (omega arith)
 
 returns : tie.Need-returns Inv-loop μ-loop
 returns c =

@@ -14,12 +14,6 @@ use Rattle.host.proofs.samples.Laws.{room-enough, answer-alone, whole-b
 use Rattle.host.proofs.samples.run_into.Statement.{statement}
 use Rattle.host.proofs.samples.run_into.Tie as tie
 
-at-most-requires : tie.Need-at-most-requires
-at-most-requires c κs = search needs
-
-slice-relend-prefix-run-of : tie.Need-slice-relend-prefix-run-of
-slice-relend-prefix-run-of c = search needs
-
 slice-aggregate-run-of : tie.Need-slice-aggregate-run-of
 slice-aggregate-run-of c =
     let t = c .before .before .before in
@@ -28,22 +22,21 @@ slice-aggregate-run-of c =
 run-of-requires : tie.Need-run-of-requires
 run-of-requires c κs = sym (c .before .before .before .pre .0)
 
-same-length : tie.Need-same-length
-same-length c = search needs
-
 returns : tie.Need-returns
 unfolding runGave
 returns c =
-    let t = c .before .before .before .before .before .before in
+    let c2 = c .before .before in let c4 = c2 .before .before in let c6 = c4 .before .before in
+    let t = c6 in
     let a = t .args in
-    let p = c .before .before .before .before .at-most in
-    let r = c .before .before .run-of in
+    let p = c4 .at-most in
+    let r = c2 .run-of in
     let buf = a .buf .now in
     let lent = take (p .result) buf in
     let q = firstOf (runChecks (a .s) (a .n) (length lent)) in
     let ticked = clocks (a .n) (a .s) in
     let long = length-take-le (p .result) buf (p .ensures .1) in
-    let same = ap (λ (x : ℕ). firstOf (runChecks (a .s) (a .n) x)) (long ∙ p .ensures .0) ∙ room-enough (a .s) (a .n) (a .room) (length buf) (t .pre .1) in (
+    let same = ap (λ (x : ℕ). firstOf (runChecks (a .s) (a .n) x)) (long ∙ p .ensures .0)
+    ∙ room-enough (a .s) (a .n) (a .room) (length buf) (t .pre .1) in (
       r .ensures .0 ∙ answer-alone q ticked lent buf (a .s) ∙ ap (λ (x : ℕ). ranOf (runBy x ticked buf (a .s))) same,
       ap (λ (x : List Float). x ++ drop (p .result) buf) (r .ensures .1)
           ∙ whole-buffer q ticked buf (p .result) (a .s) (λ e. run-good (a .s) (a .n) (length lent) e .enough)
@@ -54,9 +47,9 @@ pub run-into-spec : {M : Type 1} → statement M
 run-into-spec =
     tie.close
     (tie.spec
-    at-most-requires
-    slice-relend-prefix-run-of
+    (λ c κs. search needs)  -- at-most-requires
+    (λ c. search needs)  -- slice-relend-prefix-run-of
     slice-aggregate-run-of
     run-of-requires
-    same-length
+    (λ c. search needs)  -- same-length
     returns)

@@ -12,7 +12,8 @@ use Rattle.image.proofs.writing.flags_word.Statement.{statement}
 use Rattle.image.proofs.writing.flags_word.Tie as tie
 
 abbrev Inv-loop : tie.InvT-loop
-Inv-loop flags word₀ i₀ word i = (i ≤ 12) × (length flags ≡ 12) × (word ≡ pack (replicate i 1) (map bit (take i flags))) × (word < 2 ^ i)
+Inv-loop flags word₀ i₀ word i =
+    (i ≤ 12) × (length flags ≡ 12) × (word ≡ pack (replicate i 1) (map bit (take i flags))) × (word < 2 ^ i)
 
 abbrev μ-loop : tie.MeasureT-loop
 μ-loop flags word₀ i₀ word i = 12 - i
@@ -21,30 +22,26 @@ loop-holds : tie.Need-loop-holds Inv-loop μ-loop
 unfolding pack
 loop-holds c = (omega arith, search needs, refl, omega arith)
 
-array-read-flag : tie.Need-array-read-flag Inv-loop μ-loop
-array-read-flag c = search needs
-
 mul-word : tie.Need-mul-word Inv-loop μ-loop
 mul-word c = omega (arith, below-12 (c .before .loop .word) (c .before .loop .i) (c .before .loop .inv .3) (omega arith))
 
-bit-of-requires : tie.Need-bit-of-requires Inv-loop μ-loop
-bit-of-requires c κs = search needs
-
 add-word : tie.Need-add-word Inv-loop μ-loop
-add-word c = omega (arith, below-12 (c .before .before .loop .word) (c .before .before .loop .i) (c .before .before .loop .inv .3) (omega arith))
-
-add-i : tie.Need-add-i Inv-loop μ-loop
-add-i c = search needs
-
-loop-less : tie.Need-loop-less Inv-loop μ-loop
-loop-less c = search needs
+add-word c =
+    let c2 = c .before .before in
+    omega (arith, below-12 (c2 .loop .word) (c2 .loop .i) (c2 .loop .inv .3) (omega arith))
 
 loop-again : tie.Need-loop-again Inv-loop μ-loop
 loop-again c =
-    let l = c .before .before .loop in
+    let c2 = c .before .before in let c3 = c2 .before in
+    let l = c2 .loop in
     let b = c .bit-of in
-    let xs = c .before .before .before .args .t1 in
-    (omega arith, l .inv .1, ap (λ (x : ℕ). l .word * 2 + x) (b .ensures .0) ∙ ap (λ (x : ℕ). x * 2 + bit (getD xs (l .i) _)) (l .inv .2) ∙ sym (flags-more xs (l .i) (omega arith)), doubled (l .word) (b .result) (l .i) (l .inv .3) (b .ensures .1))
+    let xs = c3 .args .t1 in (
+      omega arith,
+      l .inv .1,
+      ap (λ (x : ℕ). l .word * 2 + x) (b .ensures .0)
+          ∙ ap (λ (x : ℕ). x * 2 + bit (getD xs (l .i) _)) (l .inv .2) ∙ sym (flags-more xs (l .i) (omega arith)),
+      doubled (l .word) (b .result) (l .i) (l .inv .3) (b .ensures .1),
+    )
 
 returns : tie.Need-returns Inv-loop μ-loop
 returns c =
@@ -60,11 +57,11 @@ flags-word-spec =
     Inv-loop
     μ-loop
     loop-holds
-    array-read-flag
+    (λ c. search needs)  -- array-read-flag
     mul-word
-    bit-of-requires
+    (λ c κs. search needs)  -- bit-of-requires
     add-word
-    add-i
-    loop-less
+    (λ c. search needs)  -- add-i
+    (λ c. search needs)  -- loop-less
     loop-again
     returns)

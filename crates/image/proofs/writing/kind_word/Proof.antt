@@ -5,30 +5,6 @@ use borrow.Author.Needs.{needs}
 use Rattle.image.proofs.writing.kind_word.Statement.{statement}
 use Rattle.image.proofs.writing.kind_word.Tie as tie
 
-bit-of-requires : tie.Need-bit-of-requires
-bit-of-requires c κs = search needs
-
-mirroring-num-requires : tie.Need-mirroring-num-requires
-mirroring-num-requires c κs = search needs
-
-bit-of-requires-2 : tie.Need-bit-of-requires-2
-bit-of-requires-2 c κs = search needs
-
-mul-result : tie.Need-mul-result
-mul-result c = search needs
-
-cast-result : tie.Need-cast-result
-cast-result c = search needs
-
-mul-result-2 : tie.Need-mul-result-2
-mul-result-2 c = search needs
-
-add-result : tie.Need-add-result
-add-result c = search needs
-
-add-result-2 : tie.Need-add-result-2
-add-result-2 c = search needs
-
 returns : tie.Need-returns
 unfolding total pack
 returns c = omega arith
@@ -37,12 +13,12 @@ pub kind-word-spec : {M : Type 1} → statement M
 kind-word-spec =
     tie.close
     (tie.spec
-    bit-of-requires
-    mirroring-num-requires
-    bit-of-requires-2
-    mul-result
-    cast-result
-    mul-result-2
-    add-result
-    add-result-2
+    (λ c κs. search needs)  -- bit-of-requires
+    (λ c κs. search needs)  -- mirroring-num-requires
+    (λ c κs. search needs)  -- bit-of-requires-2
+    (λ c. search needs)  -- mul-result
+    (λ c. search needs)  -- cast-result
+    (λ c. search needs)  -- mul-result-2
+    (λ c. search needs)  -- add-result
+    (λ c. search needs)  -- add-result-2
     returns)

@@ -5,21 +5,6 @@ use borrow.Author.Needs.{needs}
 use Rattle.image.proofs.writing.page_word.Statement.{statement}
 use Rattle.image.proofs.writing.page_word.Tie as tie
 
-is-writable-requires : tie.Need-is-writable-requires
-is-writable-requires c κs = search needs
-
-bit-of-requires : tie.Need-bit-of-requires
-bit-of-requires c κs = search needs
-
-offset-requires : tie.Need-offset-requires
-offset-requires c κs = search needs
-
-mul-result : tie.Need-mul-result
-mul-result c = search needs
-
-add-result : tie.Need-add-result
-add-result c = search needs
-
 returns : tie.Need-returns
 unfolding total pack
 returns c = let e = c .before .bit-of .ensures .0 in let f = rw (c .before .before .is-writable .ensures) at e in omega arith
@@ -27,4 +12,10 @@ returns c = let e = c .before .bit-of .ensures .0 in let f = rw (c .before .befo
 pub page-word-spec : {M : Type 1} → statement M
 page-word-spec =
     tie.close
-    (tie.spec is-writable-requires bit-of-requires offset-requires mul-result add-result returns)
+    (tie.spec
+    (λ c κs. search needs)  -- is-writable-requires
+    (λ c κs. search needs)  -- bit-of-requires
+    (λ c κs. search needs)  -- offset-requires
+    (λ c. search needs)  -- mul-result
+    (λ c. search needs)  -- add-result
+    returns)

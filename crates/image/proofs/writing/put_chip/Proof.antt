@@ -13,39 +13,56 @@ use borrow.Author.Needs.{needs}
 use Rattle.image.proofs.writing.put_chip.Statement.{statement}
 use Rattle.image.proofs.writing.put_chip.Tie as tie
 
-regs-word-requires : tie.Need-regs-word-requires
-regs-word-requires c κs = search needs
-
-put-requires : tie.Need-put-requires
-put-requires c κs = search needs
-
-kind-word-requires : tie.Need-kind-word-requires
-kind-word-requires c κs = search needs
-
 put-requires-2 : tie.Need-put-requires-2
 unfolding total
-put-requires-2 c κs = let p = c .before .before .before .before .put .ensures in (p .held, (omega arith, c .kind-word .ensures .1, omega (arith, p .pos, p .len, c .before .before .before .before .before .before .before .before .before .pre .0)))
-
-flags-word-requires : tie.Need-flags-word-requires
-flags-word-requires c κs = search needs
+put-requires-2 c κs =
+    let c4 = c .before .before .before .before in let c9 = c4 .before .before .before .before .before in
+    let p = c4 .put .ensures in (p .held, (omega arith, c .kind-word .ensures .1, omega (arith, p .pos, p .len, c9 .pre .0)))
 
 put-requires-3 : tie.Need-put-requires-3
 unfolding total
-put-requires-3 c κs = let p = c .before .before .before .before .before .before .before .before .before .before .put .ensures in let q = c .before .before .before .before .before .put2 .ensures in (q .held, (omega arith, c .flags-word .ensures .1, omega (arith, p .pos, p .len, q .pos, q .len, c .before .before .before .before .before .before .before .before .before .before .before .before .before .before .before .pre .0)))
+put-requires-3 c κs =
+    let c5 = c .before .before .before .before .before in let c10 = c5 .before .before .before .before .before in
+    let c15 = c10 .before .before .before .before .before in
+    let p = c10 .put .ensures in let q = c5 .put2 .ensures in
+    (q .held, (omega arith, c .flags-word .ensures .1, omega (arith, p .pos, p .len, q .pos, q .len, c15 .pre .0)))
 
 put-chr-banks-requires : tie.Need-put-chr-banks-requires
 unfolding total
-put-chr-banks-requires c κs = let p = c .before .before .before .before .before .before .before .before .before .before .before .before .before .before .before .put .ensures in let q = c .before .before .before .before .before .before .before .before .before .before .put2 .ensures in let r = c .before .before .before .before .put3 .ensures in (r .held, omega (arith, p .pos, p .len, q .pos, q .len, r .pos, r .len, c .before .before .before .before .before .before .before .before .before .before .before .before .before .before .before .before .before .before .before .before .pre .0))
+put-chr-banks-requires c κs =
+    let c4 = c .before .before .before .before in let c10 = c4 .before .before .before .before .before .before in
+    let c15 = c10 .before .before .before .before .before in let c20 = c15 .before .before .before .before .before in
+    let p = c15 .put .ensures in let q = c10 .put2 .ensures in let r = c4 .put3 .ensures in
+    (r .held, omega (arith, p .pos, p .len, q .pos, q .len, r .pos, r .len, c20 .pre .0))
 
 banks-word-requires : tie.Need-banks-word-requires
-banks-word-requires c κs = let b = bank-at (c .before .before .before .before .before .before .before .before .before .before .before .before .before .before .before .before .before .before .before .before .before .before .before .before .before .args .chip .«prg_banks») (c .before .before .before .before .before .before .before .before .before .before .before .before .before .before .before .before .before .before .before .before .before .before .before .before .before .pre .1) in (b 0 (omega arith), b 1 (omega arith), b 2 (omega arith))
+banks-word-requires c κs =
+    let c25 = c .before .before .before .before .before .before .before .before .before .before .before .before .before .before .before .before .before .before .before .before .before .before .before .before .before in
+    let b = bank-at (c25 .args .chip .«prg_banks») (c25 .pre .1) in (b 0 (omega arith), b 1 (omega arith), b 2 (omega arith))
 
 put-requires-4 : tie.Need-put-requires-4
 unfolding total
-put-requires-4 c κs = let p = c .before .before .before .before .before .before .before .before .before .before .before .before .before .before .before .before .before .before .before .before .before .put .ensures in let q = c .before .before .before .before .before .before .before .before .before .before .before .before .before .before .before .before .put2 .ensures in let r = c .before .before .before .before .before .before .before .before .before .before .put3 .ensures in let t = c .before .before .before .before .before .put-chr-banks .ensures in (t .held, (omega arith, c .banks-word .ensures .1, omega (arith, p .pos, p .len, q .pos, q .len, r .pos, r .len, t .pos, t .len, c .before .before .before .before .before .before .before .before .before .before .before .before .before .before .before .before .before .before .before .before .before .before .before .before .before .before .pre .0)))
+put-requires-4 c κs =
+    let c5 = c .before .before .before .before .before in let c10 = c5 .before .before .before .before .before in
+    let c16 = c10 .before .before .before .before .before .before in
+    let c21 = c16 .before .before .before .before .before in let c26 = c21 .before .before .before .before .before in
+    let p = c21 .put .ensures in let q = c16 .put2 .ensures in let r = c10 .put3 .ensures in let t = c5 .put-chr-banks .ensures in (
+      t .held,
+      (
+        omega arith,
+        c .banks-word .ensures .1,
+        omega (arith, p .pos, p .len, q .pos, q .len, r .pos, r .len, t .pos, t .len, c26 .pre .0),
+      ),
+    )
 
 same-length : tie.Need-same-length
-same-length c = (c .before .before .put4 .ensures .len ∙ c .before .before .before .before .before .before .before .before .put-chr-banks .ensures .len ∙ c .before .before .before .before .before .before .before .before .before .before .before .before .before .put3 .ensures .len ∙ c .before .before .before .before .before .before .before .before .before .before .before .before .before .before .before .before .before .before .before .put2 .ensures .len ∙ c .before .before .before .before .before .before .before .before .before .before .before .before .before .before .before .before .before .before .before .before .before .before .before .before .put .ensures .len)
+same-length c =
+    let c2 = c .before .before in let c8 = c2 .before .before .before .before .before .before in
+    let c13 = c8 .before .before .before .before .before in
+    let c19 = c13 .before .before .before .before .before .before in
+    let c24 = c19 .before .before .before .before .before in
+    (c2 .put4 .ensures .len ∙ c8 .put-chr-banks .ensures .len ∙ c13 .put3 .ensures .len ∙ c19 .put2 .ensures .len
+    ∙ c24 .put .ensures .len)
 
 chip-bits : 0 * 8 + total (joined chipWidths) ≡ 23 * 8
 unfolding total joined
@@ -64,33 +81,42 @@ lengths-prg c = search needs
 returns : tie.Need-returns
 unfolding total
 returns c =
-    let n = c .before .before .before .before .before .before .before .before .before .before .before .before .before .before .before .before .before .before .before .before .before .before .before .before .before .before .before .before .before .args .chip in
+    let c2 = c .before .before in let c3 = c2 .before in let c8 = c3 .before .before .before .before .before in
+    let c13 = c8 .before .before .before .before .before in let c14 = c13 .before in
+    let c19 = c14 .before .before .before .before .before in let c20 = c19 .before in
+    let c24 = c20 .before .before .before .before in let c25 = c24 .before in
+    let c29 = c25 .before .before .before .before in
+    let n = c29 .args .chip in
     let f = chipFields n in
-    let lf : length (n .«nt_bank_enable») ≡ 12 = lengths-flags (c .before .before .before .before .before .before .before .before .before .before .before .before .before .before .before .before .before .before .before .before .before .before .before .before .before .before .before .before .before) in
-    let lc : length (n .«chr_banks») ≡ 12 = lengths-chr (c .before .before .before .before .before .before .before .before .before .before .before .before .before .before .before .before .before .before .before .before .before .before .before .before .before .before .before .before .before) in
-    let lp : length (n .«prg_banks») ≡ 3 = lengths-prg (c .before .before .before .before .before .before .before .before .before .before .before .before .before .before .before .before .before .before .before .before .before .before .before .before .before .before .before .before .before) in
-    let p = c .before .before .before .before .before .before .before .before .before .before .before .before .before .before .before .before .before .before .before .before .before .before .before .before .put .ensures in
-    let q = c .before .before .before .before .before .before .before .before .before .before .before .before .before .before .before .before .before .before .before .put2 .ensures in
-    let r = c .before .before .before .before .before .before .before .before .before .before .before .before .before .put3 .ensures in
-    let t = c .before .before .before .before .before .before .before .before .put-chr-banks .ensures in
-    let u = c .before .before .put4 .ensures in
+    let lf : length (n .«nt_bank_enable») ≡ 12 = lengths-flags c29 in
+    let lc : length (n .«chr_banks») ≡ 12 = lengths-chr c29 in
+    let lp : length (n .«prg_banks») ≡ 3 = lengths-prg c29 in
+    let p = c24 .put .ensures in
+    let q = c19 .put2 .ensures in
+    let r = c13 .put3 .ensures in
+    let t = c8 .put-chr-banks .ensures in
+    let u = c2 .put4 .ensures in
     wrote-to _ _ 0 23 _ _ _ chip-bits
-    (wrote-part _ _ _ _ _ _ (part chipWidths 0) (part f 0) _ _ refl (wrote-word _ _ _ _ (part chipWidths 0) (part f 0) (rw (c .before .before .before .before .before .before .before .before .before .before .before .before .before .before .before .before .before .before .before .before .before .before .before .before .before .regs-word .ensures .0) at p))
-    (wrote-part _ _ _ _ _ _ (part chipWidths 1) (part f 1) _ _ refl (wrote-word _ _ _ _ (part chipWidths 1) (part f 1) (rw (c .before .before .before .before .before .before .before .before .before .before .before .before .before .before .before .before .before .before .before .before .kind-word .ensures .0) at q))
-    (wrote-part _ _ _ _ _ _ (part chipWidths 2) (part f 2) _ _ (sym (length-map (n .«nt_bank_enable») bit ∙ lf)) (wrote-word _ _ _ _ (part chipWidths 2) (part f 2) (rw (c .before .before .before .before .before .before .before .before .before .before .before .before .before .before .flags-word .ensures .0) at r))
+    (wrote-part _ _ _ _ _ _ (part chipWidths 0) (part f 0) _ _ refl
+    (wrote-word _ _ _ _ (part chipWidths 0) (part f 0) (rw (c25 .regs-word .ensures .0) at p))
+    (wrote-part _ _ _ _ _ _ (part chipWidths 1) (part f 1) _ _ refl
+    (wrote-word _ _ _ _ (part chipWidths 1) (part f 1) (rw (c20 .kind-word .ensures .0) at q))
+    (wrote-part _ _ _ _ _ _ (part chipWidths 2) (part f 2) _ _ (sym (length-map (n .«nt_bank_enable») bit ∙ lf))
+    (wrote-word _ _ _ _ (part chipWidths 2) (part f 2) (rw (c14 .flags-word .ensures .0) at r))
     (wrote-part _ _ _ _ _ _ (part chipWidths 3) (part f 3) _ _ (sym lc) t
-    (wrote-part _ _ _ _ _ _ (part chipWidths 4) (part f 4) [] [] (sym lp) (wrote-word _ _ _ _ (part chipWidths 4) (part f 4) (rw (c .before .before .before .banks-word .ensures .0) at u))
+    (wrote-part _ _ _ _ _ _ (part chipWidths 4) (part f 4) [] [] (sym lp)
+    (wrote-word _ _ _ _ (part chipWidths 4) (part f 4) (rw (c3 .banks-word .ensures .0) at u))
     (wrote-end _ _ (u .held)))))))
 
 pub put-chip-spec : {M : Type 1} → statement M
 put-chip-spec =
     tie.close
     (tie.spec
-    regs-word-requires
-    put-requires
-    kind-word-requires
+    (λ c κs. search needs)  -- regs-word-requires
+    (λ c κs. search needs)  -- put-requires
+    (λ c κs. search needs)  -- kind-word-requires
     put-requires-2
-    flags-word-requires
+    (λ c κs. search needs)  -- flags-word-requires
     put-requires-3
     put-chr-banks-requires
     banks-word-requires

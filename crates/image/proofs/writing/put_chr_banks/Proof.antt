@@ -14,7 +14,8 @@ use Rattle.image.proofs.writing.put_chr_banks.Statement.{statement}
 use Rattle.image.proofs.writing.put_chr_banks.Tie as tie
 
 abbrev Inv-loop : tie.InvT-loop
-Inv-loop img₀ banks c₀ i₀ img c i = (i ≤ 12) × (length banks ≡ 12) × (length img ≡ length img₀) × Wrote img₀ img c₀ c (replicate i 8) (take i banks)
+Inv-loop img₀ banks c₀ i₀ img c i =
+    (i ≤ 12) × (length banks ≡ 12) × (length img ≡ length img₀) × Wrote img₀ img c₀ c (replicate i 8) (take i banks)
 
 abbrev μ-loop : tie.MeasureT-loop
 μ-loop img₀ banks c₀ i₀ img c i = 12 - i
@@ -22,29 +23,28 @@ abbrev μ-loop : tie.MeasureT-loop
 loop-holds : tie.Need-loop-holds Inv-loop μ-loop
 loop-holds c = (omega arith, search needs, refl, wrote-none (c .before .args .img .now) (c .before .args .w) (c .before .pre .0))
 
-array-read-bank : tie.Need-array-read-bank Inv-loop μ-loop
-array-read-bank c = search needs
-
-cast-put : tie.Need-cast-put Inv-loop μ-loop
-cast-put c = search needs
-
 put-requires : tie.Need-put-requires Inv-loop μ-loop
-put-requires c κs = (c .before .before .loop .inv .3 .held, (omega arith, (let f : Fits w8 (getD (c .before .before .before .before .args .t3) (c .before .before .loop .i) 0) = search needs in f .fits), omega (arith, c .before .before .loop .inv .3 .pos, total-replicate (c .before .before .loop .i) 8)))
-
-add-i : tie.Need-add-i Inv-loop μ-loop
-add-i c = search needs
-
-loop-less : tie.Need-loop-less Inv-loop μ-loop
-loop-less c = search needs
+put-requires c κs =
+    let c2 = c .before .before in let c4 = c2 .before .before in (
+      c2 .loop .inv .3 .held,
+      (
+        omega arith,
+        (let f : Fits w8 (getD (c4 .args .t3) (c2 .loop .i) 0) = search needs in f .fits),
+        omega (arith, c2 .loop .inv .3 .pos, total-replicate (c2 .loop .i) 8),
+      ),
+    )
 
 loop-again : tie.Need-loop-again Inv-loop μ-loop
 loop-again c =
-    let l = c .before .before .before .before .before .loop in
-    let s = c .before .before .before .before .before .before .before in
-    (omega arith, l .inv .1, omega arith, wrote-suc (s .args .img .now) (l .img) (c .before .before .put .last .0) (s .args .w) (l .c) (c .before .before .put .result) 8 (s .args .t3) (l .i) (omega arith) (l .inv .3) (c .before .before .put .ensures))
-
-same-length : tie.Need-same-length Inv-loop μ-loop
-same-length c = search needs
+    let c2 = c .before .before in let c5 = c2 .before .before .before in let c7 = c5 .before .before in
+    let l = c5 .loop in
+    let s = c7 in (
+      omega arith,
+      l .inv .1,
+      omega arith,
+      wrote-suc (s .args .img .now) (l .img) (c2 .put .last .0) (s .args .w) (l .c) (c2 .put .result) 8 (s .args .t3) (l .i)
+          (omega arith) (l .inv .3) (c2 .put .ensures),
+    )
 
 returns : tie.Need-returns Inv-loop μ-loop
 returns c =
@@ -59,11 +59,11 @@ put-chr-banks-spec =
     Inv-loop
     μ-loop
     loop-holds
-    array-read-bank
-    cast-put
+    (λ c. search needs)  -- array-read-bank
+    (λ c. search needs)  -- cast-put
     put-requires
-    add-i
-    loop-less
+    (λ c. search needs)  -- add-i
+    (λ c. search needs)  -- loop-less
     loop-again
-    same-length
+    (λ c. search needs)  -- same-length
     returns)

@@ -20,7 +20,9 @@ use Rattle.image.proofs.writing.put_levels.Statement.{statement}
 use Rattle.image.proofs.writing.put_levels.Tie as tie
 
 abbrev Inv-loop : tie.InvT-loop
-Inv-loop img₀ outs c₀ i₀ img c i = (i ≤ 8) × (length outs ≡ 8) × (length img ≡ length img₀) × Wrote img₀ img (byteAt 153) c (times i (12 ∷ [])) (each (λ x. levelNum x ∷ []) (take i outs))
+Inv-loop img₀ outs c₀ i₀ img c i =
+    (i ≤ 8) × (length outs ≡ 8) × (length img ≡ length img₀) × Wrote img₀ img (byteAt 153) c (times i (12 ∷ []))
+    (each (λ x. levelNum x ∷ []) (take i outs))
 
 abbrev μ-loop : tie.MeasureT-loop
 μ-loop img₀ outs c₀ i₀ img c i = 8 - i
@@ -29,41 +31,46 @@ loop-holds : tie.Need-loop-holds Inv-loop μ-loop
 unfolding times each
 loop-holds c = (omega arith, search needs, refl, wrote-none (c .before .args .img .now) (byteAt 153) (byte-held 153))
 
-mul-x : tie.Need-mul-x Inv-loop μ-loop
-mul-x c = search needs
-
-array-read-x : tie.Need-array-read-x Inv-loop μ-loop
-array-read-x c = search needs
-
 float-to-bits-bits : tie.Need-float-to-bits-bits Inv-loop μ-loop
-float-to-bits-bits c = level-facts _ (every-at 8 (outputTest (c .before .before .before .args .t2)) (c .before .before .before .pre .1) (c .before .loop .i) (omega arith)) .out .number
+float-to-bits-bits c =
+    let c1 = c .before in let c3 = c1 .before .before in
+    level-facts _ (every-at 8 (outputTest (c3 .args .t2)) (c3 .pre .1) (c1 .loop .i) (omega arith)) .out .number
 
 whole-part-requires : tie.Need-whole-part-requires Inv-loop μ-loop
-whole-part-requires c κs = level-facts _ (every-at 8 (outputTest (c .before .before .before .before .args .t2)) (c .before .before .before .before .pre .1) (c .before .before .loop .i) (omega arith)) .out .bits
-
-cast-put : tie.Need-cast-put Inv-loop μ-loop
-cast-put c = search needs
+whole-part-requires c κs =
+    let c2 = c .before .before in let c4 = c2 .before .before in
+    level-facts _ (every-at 8 (outputTest (c4 .args .t2)) (c4 .pre .1) (c2 .loop .i) (omega arith)) .out .bits
 
 put-requires : tie.Need-put-requires Inv-loop μ-loop
 unfolding total
 put-requires c κs =
-    let l = c .before .before .before .loop in
-    (l .inv .3 .held, (omega arith, omega (arith, level-facts _ (every-at 8 (outputTest (c .before .before .before .before .before .args .t2)) (c .before .before .before .before .before .pre .1) (c .before .before .before .loop .i) (omega arith)) .small, c .whole-part .ensures .0), omega (arith, l .inv .3 .pos, total-times (l .i) (12 ∷ []))))
-
-add-i : tie.Need-add-i Inv-loop μ-loop
-add-i c = search needs
-
-loop-less : tie.Need-loop-less Inv-loop μ-loop
-loop-less c = search needs
+    let c3 = c .before .before .before in let c5 = c3 .before .before in
+    let l = c3 .loop in (
+      l .inv .3 .held,
+      (
+        omega arith,
+        omega (
+          arith,
+          level-facts _ (every-at 8 (outputTest (c5 .args .t2)) (c5 .pre .1) (c3 .loop .i) (omega arith)) .small,
+          c .whole-part .ensures .0,
+        ),
+        omega (arith, l .inv .3 .pos, total-times (l .i) (12 ∷ [])),
+      ),
+    )
 
 loop-again : tie.Need-loop-again Inv-loop μ-loop
 loop-again c =
-    let l = c .before .before .before .before .before .before .loop in
-    let s = c .before .before .before .before .before .before .before .before in
-    (omega arith, l .inv .1, omega arith, wrote-each (λ x. levelNum x ∷ []) (12 ∷ []) nan (λ x. refl) (s .args .img .now) (l .img) (c .before .before .put .last .0) (byteAt 153) (l .c) (c .before .before .put .result) (s .args .t2) (l .i) (omega arith) (l .inv .3) (rw (c .before .before .before .whole-part .ensures .0) at (c .before .before .put .ensures)))
-
-same-length : tie.Need-same-length Inv-loop μ-loop
-same-length c = search needs
+    let c2 = c .before .before in let c3 = c2 .before in let c6 = c3 .before .before .before in
+    let c8 = c6 .before .before in
+    let l = c6 .loop in
+    let s = c8 in (
+      omega arith,
+      l .inv .1,
+      omega arith,
+      wrote-each (λ x. levelNum x ∷ []) (12 ∷ []) nan (λ x. refl) (s .args .img .now) (l .img) (c2 .put .last .0) (byteAt 153)
+          (l .c) (c2 .put .result) (s .args .t2) (l .i) (omega arith) (l .inv .3)
+          (rw (c3 .whole-part .ensures .0) at (c2 .put .ensures)),
+    )
 
 returns : tie.Need-returns Inv-loop μ-loop
 unfolding total times
@@ -80,14 +87,14 @@ put-levels-spec =
     Inv-loop
     μ-loop
     loop-holds
-    mul-x
-    array-read-x
+    (λ c. search needs)  -- mul-x
+    (λ c. search needs)  -- array-read-x
     float-to-bits-bits
     whole-part-requires
-    cast-put
+    (λ c. search needs)  -- cast-put
     put-requires
-    add-i
-    loop-less
+    (λ c. search needs)  -- add-i
+    (λ c. search needs)  -- loop-less
     loop-again
-    same-length
+    (λ c. search needs)  -- same-length
     returns)

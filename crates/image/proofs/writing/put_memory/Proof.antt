@@ -21,13 +21,9 @@ put-chr-pages-requires : tie.Need-put-chr-pages-requires
 put-chr-pages-requires c κs = (search needs, chr-at _ (c .before .before .before .before .before .before .before .before .pre .1))
 
 layout-word-requires : tie.Need-layout-word-requires
-layout-word-requires c κs = memory-in _ (c .before .before .before .before .before .before .before .before .before .before .before .before .pre .1) .ranged .sized .layout
-
-put-requires : tie.Need-put-requires
-put-requires c κs = search needs
-
-same-length : tie.Need-same-length
-same-length c = search needs
+layout-word-requires c κs =
+    let c12 = c .before .before .before .before .before .before .before .before .before .before .before .before in
+    memory-in _ (c12 .pre .1) .ranged .sized .layout
 
 -- what the types say of the arrays
 long-prg-pages : (c : tie.Start) → length (c .args .m .«prg_pages») ≡ 64
@@ -39,13 +35,18 @@ long-chr-pages c = sym (length-map (c .args .m .«chr_pages») _) ∙ c .good .1
 returns : tie.Need-returns
 unfolding total
 returns c =
-    let m = c .before .before .before .before .before .before .before .before .before .before .before .before .before .before .before .before .args .m in
-    let lp : length (m .«prg_pages») ≡ 64 = long-prg-pages (c .before .before .before .before .before .before .before .before .before .before .before .before .before .before .before .before) in
-    let lc : length (m .«chr_pages») ≡ 16 = long-chr-pages (c .before .before .before .before .before .before .before .before .before .before .before .before .before .before .before .before) in
-    wrote-part _ _ _ _ _ _ _ _ _ _ (times-each pageFields pageWidths (λ x. refl) 64 (m .«prg_pages») lp) (c .before .before .before .before .before .before .before .before .before .before .before .before .put-prg-pages .ensures)
-    (wrote-part _ _ _ _ _ _ _ _ _ _ (times-each pageFields pageWidths (λ x. refl) 16 (m .«chr_pages») lc) (c .before .before .before .before .before .before .before .put-chr-pages .ensures)
+    let c2 = c .before .before in let c3 = c2 .before in let c7 = c3 .before .before .before .before in
+    let c12 = c7 .before .before .before .before .before in let c16 = c12 .before .before .before .before in
+    let m = c16 .args .m in
+    let lp : length (m .«prg_pages») ≡ 64 = long-prg-pages c16 in
+    let lc : length (m .«chr_pages») ≡ 16 = long-chr-pages c16 in
+    wrote-part _ _ _ _ _ _ _ _ _ _ (times-each pageFields pageWidths (λ x. refl) 64 (m .«prg_pages») lp)
+    (c12 .put-prg-pages .ensures)
+    (wrote-part _ _ _ _ _ _ _ _ _ _ (times-each pageFields pageWidths (λ x. refl) 16 (m .«chr_pages») lc)
+    (c7 .put-chr-pages .ensures)
     (wrote-part _ _ _ _ _ _ layoutWidths (layoutFields m) [] [] refl
-    (wrote-to _ _ 303 307 _ _ _ (omega arith) (wrote-word _ _ _ _ layoutWidths (layoutFields m) (rw (c .before .before .before .layout-word .ensures .0) at (c .before .before .put .ensures))))
+    (wrote-to _ _ 303 307 _ _ _ (omega arith)
+    (wrote-word _ _ _ _ layoutWidths (layoutFields m) (rw (c3 .layout-word .ensures .0) at (c2 .put .ensures))))
     (wrote-done _ 307)))
 
 pub put-memory-spec : {M : Type 1} → statement M
@@ -55,6 +56,6 @@ put-memory-spec =
     put-prg-pages-requires
     put-chr-pages-requires
     layout-word-requires
-    put-requires
-    same-length
+    (λ c κs. search needs)  -- put-requires
+    (λ c. search needs)  -- same-length
     returns)

@@ -16,12 +16,9 @@ cast-put c = omega (arith, out-facts _ (c .before .before .pre .1) .bits)
 put-requires : tie.Need-put-requires
 put-requires c κs = (byte-held 165, (omega arith, omega (arith, out-facts _ (c .before .before .pre .1) .bits), omega arith))
 
-same-length : tie.Need-same-length
-same-length c = search needs
-
 returns : tie.Need-returns
 unfolding total
 returns c = wrote-to _ _ 165 169 _ _ _ (omega arith) (c .before .before .put .ensures)
 
 pub put-out-spec : {M : Type 1} → statement M
-put-out-spec = tie.close (tie.spec float-to-bits-bits cast-put put-requires same-length returns)
+put-out-spec = tie.close (tie.spec float-to-bits-bits cast-put put-requires (λ c. search needs) returns)

@@ -12,24 +12,27 @@ use borrow.Author.Needs.{needs}
 use Rattle.image.proofs.writing.put_phases.Statement.{statement}
 use Rattle.image.proofs.writing.put_phases.Tie as tie
 
-slice-aggregate-put-run : tie.Need-slice-aggregate-put-run
-slice-aggregate-put-run c = search needs
-
 put-run-requires : tie.Need-put-run-requires
 put-run-requires c κs =
-    let xs = c .before .before .before .args .t2 in
-    let l : length xs ≡ 8 = search needs in
-    (byte-held 169, (omega arith, fit-replicate 24 xs (λ i h. ltb-true (getD xs i 0) 16777216 (every-at 8 (phaseTest xs) (c .before .before .before .pre .1) i (omega arith))), omega arith))
-
-same-length : tie.Need-same-length
-same-length c = search needs
+    let c3 = c .before .before .before in
+    let xs = c3 .args .t2 in
+    let l : length xs ≡ 8 = search needs in (
+      byte-held 169,
+      (
+        omega arith,
+        fit-replicate 24 xs
+            (λ i h. ltb-true (getD xs i 0) 16777216 (every-at 8 (phaseTest xs) (c3 .pre .1) i (omega arith))),
+        omega arith,
+      ),
+    )
 
 returns : tie.Need-returns
 unfolding total
 returns c =
-    let xs = c .before .before .before .before .before .before .args .t2 in
+    let c2 = c .before .before in let c6 = c2 .before .before .before .before in
+    let xs = c6 .args .t2 in
     let l : length xs ≡ 8 = search needs in
-    wrote-to _ _ 169 193 _ _ _ (omega arith) (rw l at (c .before .before .put-run .ensures))
+    wrote-to _ _ 169 193 _ _ _ (omega arith) (rw l at (c2 .put-run .ensures))
 
 pub put-phases-spec : {M : Type 1} → statement M
-put-phases-spec = tie.close (tie.spec slice-aggregate-put-run put-run-requires same-length returns)
+put-phases-spec = tie.close (tie.spec (λ c. search needs) put-run-requires (λ c. search needs) returns)

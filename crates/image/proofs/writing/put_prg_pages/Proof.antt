@@ -15,7 +15,9 @@ use Rattle.image.proofs.writing.put_prg_pages.Statement.{statement}
 use Rattle.image.proofs.writing.put_prg_pages.Tie as tie
 
 abbrev Inv-loop : tie.InvT-loop
-Inv-loop img₀ pages k₀ img k = (k ≤ 8) × (length pages ≡ 64) × (length img ≡ length img₀) × Wrote img₀ img (byteAt 193) (byteAt (193 + k * 11)) (times (k * 8) pageWidths) (each pageFields (take (k * 8) pages))
+Inv-loop img₀ pages k₀ img k =
+    (k ≤ 8) × (length pages ≡ 64) × (length img ≡ length img₀) × Wrote img₀ img (byteAt 193) (byteAt (193 + k * 11))
+    (times (k * 8) pageWidths) (each pageFields (take (k * 8) pages))
 
 abbrev μ-loop : tie.MeasureT-loop
 μ-loop img₀ pages k₀ img k = 8 - k
@@ -24,97 +26,22 @@ loop-holds : tie.Need-loop-holds Inv-loop μ-loop
 unfolding times each
 loop-holds c = (omega arith, search needs, refl, wrote-none (c .before .args .img .now) (byteAt 193) (byte-held 193))
 
-mul-i : tie.Need-mul-i Inv-loop μ-loop
-mul-i c = search needs
-
-mul-p : tie.Need-mul-p Inv-loop μ-loop
-mul-p c = search needs
-
-array-copy-out-p : tie.Need-array-copy-out-p Inv-loop μ-loop
-array-copy-out-p c = search needs
-
-add-q : tie.Need-add-q Inv-loop μ-loop
-add-q c = search needs
-
-mul-q : tie.Need-mul-q Inv-loop μ-loop
-mul-q c = search needs
-
-array-copy-out-q : tie.Need-array-copy-out-q Inv-loop μ-loop
-array-copy-out-q c = search needs
-
-add-r : tie.Need-add-r Inv-loop μ-loop
-add-r c = search needs
-
-mul-r : tie.Need-mul-r Inv-loop μ-loop
-mul-r c = search needs
-
-array-copy-out-r : tie.Need-array-copy-out-r Inv-loop μ-loop
-array-copy-out-r c = search needs
-
-add-s : tie.Need-add-s Inv-loop μ-loop
-add-s c = search needs
-
-mul-s : tie.Need-mul-s Inv-loop μ-loop
-mul-s c = search needs
-
-array-copy-out-s : tie.Need-array-copy-out-s Inv-loop μ-loop
-array-copy-out-s c = search needs
-
-mul-u : tie.Need-mul-u Inv-loop μ-loop
-mul-u c = search needs
-
-add-u : tie.Need-add-u Inv-loop μ-loop
-add-u c = search needs
-
 quad-word-requires : tie.Need-quad-word-requires Inv-loop μ-loop
 quad-word-requires c κs =
-    let i = c .before .before .before .before .before .before .loop .k * 8 in
-    let p = c .before .before .before .before .before .before .before .before .pre .1 in
+    let c6 = c .before .before .before .before .before .before in let c8 = c6 .before .before in
+    let i = c6 .loop .k * 8 in
+    let p = c8 .pre .1 in
     (p i (omega arith), p (i + 1) (omega arith), p (i + 2) (omega arith), p (i + 3) (omega arith))
 
 put-requires : tie.Need-put-requires Inv-loop μ-loop
 put-requires c κs = (byte-held _, (omega arith, c .quad-word .ensures .1, search needs))
 
-add-j : tie.Need-add-j Inv-loop μ-loop
-add-j c = search needs
-
-mul-t : tie.Need-mul-t Inv-loop μ-loop
-mul-t c = search needs
-
-array-copy-out-t : tie.Need-array-copy-out-t Inv-loop μ-loop
-array-copy-out-t c = search needs
-
-add-u-2 : tie.Need-add-u-2 Inv-loop μ-loop
-add-u-2 c = search needs
-
-mul-u-2 : tie.Need-mul-u-2 Inv-loop μ-loop
-mul-u-2 c = search needs
-
-array-copy-out-u : tie.Need-array-copy-out-u Inv-loop μ-loop
-array-copy-out-u c = search needs
-
-add-v : tie.Need-add-v Inv-loop μ-loop
-add-v c = search needs
-
-mul-v : tie.Need-mul-v Inv-loop μ-loop
-mul-v c = search needs
-
-array-copy-out-v : tie.Need-array-copy-out-v Inv-loop μ-loop
-array-copy-out-v c = search needs
-
-add-x : tie.Need-add-x Inv-loop μ-loop
-add-x c = search needs
-
-mul-x : tie.Need-mul-x Inv-loop μ-loop
-mul-x c = search needs
-
-array-copy-out-x : tie.Need-array-copy-out-x Inv-loop μ-loop
-array-copy-out-x c = search needs
-
 quad-word-requires-2 : tie.Need-quad-word-requires-2 Inv-loop μ-loop
 quad-word-requires-2 c κs =
-    let i = c .before .before .before .before .before .before .before .before .before .before .before .before .before .before .before .loop .k * 8 + 4 in
-    let p = c .before .before .before .before .before .before .before .before .before .before .before .before .before .before .before .before .before .pre .1 in
+    let c15 = c .before .before .before .before .before .before .before .before .before .before .before .before .before .before .before in
+    let c17 = c15 .before .before in
+    let i = c15 .loop .k * 8 + 4 in
+    let p = c17 .pre .1 in
     (p i (omega arith), p (i + 1) (omega arith), p (i + 2) (omega arith), p (i + 3) (omega arith))
 
 put-requires-2 : tie.Need-put-requires-2 Inv-loop μ-loop
@@ -123,33 +50,31 @@ put-requires-2 c κs =
     let q = c .before .before .before .before .before .before .before .before .put .ensures in
     (q .held, (omega arith, c .quad-word2 .ensures .1, omega (arith, q .pos, q .len)))
 
-add-k : tie.Need-add-k Inv-loop μ-loop
-add-k c = search needs
-
-loop-less : tie.Need-loop-less Inv-loop μ-loop
-loop-less c = search needs
-
 loop-again : tie.Need-loop-again Inv-loop μ-loop
 unfolding total times
 loop-again c =
-    let l = c .before .before .before .before .before .before .before .before .before .before .before .before .before .before .before .before .before .before .before .loop in
-    let s = c .before .before .before .before .before .before .before .before .before .before .before .before .before .before .before .before .before .before .before .before .before in
+    let c2 = c .before .before in let c3 = c2 .before in
+    let c11 = c3 .before .before .before .before .before .before .before .before in let c12 = c11 .before in
+    let c18 = c12 .before .before .before .before .before .before in let c19 = c18 .before in
+    let c21 = c19 .before .before in
+    let l = c19 .loop in
+    let s = c21 in
     let xs = s .args .t2 in
     let i = l .k * 8 in
-    let q = c .before .before .before .before .before .before .before .before .before .before .before .put in
-    let r = c .before .before .put2 in
-    let t = c .before .before .before .before .before .before .before .before .before .before .before .before .before .before .before .before .before .before .loop-test .taken in
+    let q = c11 .put in
+    let r = c2 .put2 in
+    let t = c18 .loop-test .taken in
     let four = times 4 pageWidths in (
       omega (arith, t),
       l .inv .1,
       omega (arith, q .ensures .len, r .ensures .len),
-      wrote-eight pageFields pageWidths unmapped (λ x. refl) refl (s .args .img .now) (l .img) (q .last .0) (r .last .0) 193 (l .k) (q .result) (r .result) xs (omega (arith, t, l .inv .1)) (l .inv .3)
-          (wrote-word (l .img) (q .last .0) (byteAt (193 + l .k * 11)) (q .result) four (each pageFields (fourAt unmapped xs i)) (rw (c .before .before .before .before .before .before .before .before .before .before .before .before .quad-word .ensures .0) at (q .ensures)))
-          (wrote-word (q .last .0) (r .last .0) (q .result) (r .result) four (each pageFields (fourAt unmapped xs (i + 4))) (rw (c .before .before .before .quad-word2 .ensures .0) at (r .ensures))),
+      wrote-eight pageFields pageWidths unmapped (λ x. refl) refl (s .args .img .now) (l .img) (q .last .0) (r .last .0) 193 (l .k)
+          (q .result) (r .result) xs (omega (arith, t, l .inv .1)) (l .inv .3)
+          (wrote-word (l .img) (q .last .0) (byteAt (193 + l .k * 11)) (q .result) four (each pageFields (fourAt unmapped xs i))
+          (rw (c12 .quad-word .ensures .0) at (q .ensures)))
+          (wrote-word (q .last .0) (r .last .0) (q .result) (r .result) four (each pageFields (fourAt unmapped xs (i + 4)))
+          (rw (c3 .quad-word2 .ensures .0) at (r .ensures))),
     )
-
-same-length : tie.Need-same-length Inv-loop μ-loop
-same-length c = search needs
 
 returns : tie.Need-returns Inv-loop μ-loop
 returns c =
@@ -165,38 +90,38 @@ put-prg-pages-spec =
     Inv-loop
     μ-loop
     loop-holds
-    mul-i
-    mul-p
-    array-copy-out-p
-    add-q
-    mul-q
-    array-copy-out-q
-    add-r
-    mul-r
-    array-copy-out-r
-    add-s
-    mul-s
-    array-copy-out-s
-    mul-u
-    add-u
+    (λ c. search needs)  -- mul-i
+    (λ c. search needs)  -- mul-p
+    (λ c. search needs)  -- array-copy-out-p
+    (λ c. search needs)  -- add-q
+    (λ c. search needs)  -- mul-q
+    (λ c. search needs)  -- array-copy-out-q
+    (λ c. search needs)  -- add-r
+    (λ c. search needs)  -- mul-r
+    (λ c. search needs)  -- array-copy-out-r
+    (λ c. search needs)  -- add-s
+    (λ c. search needs)  -- mul-s
+    (λ c. search needs)  -- array-copy-out-s
+    (λ c. search needs)  -- mul-u
+    (λ c. search needs)  -- add-u
     quad-word-requires
     put-requires
-    add-j
-    mul-t
-    array-copy-out-t
-    add-u-2
-    mul-u-2
-    array-copy-out-u
-    add-v
-    mul-v
-    array-copy-out-v
-    add-x
-    mul-x
-    array-copy-out-x
+    (λ c. search needs)  -- add-j
+    (λ c. search needs)  -- mul-t
+    (λ c. search needs)  -- array-copy-out-t
+    (λ c. search needs)  -- add-u-2
+    (λ c. search needs)  -- mul-u-2
+    (λ c. search needs)  -- array-copy-out-u
+    (λ c. search needs)  -- add-v
+    (λ c. search needs)  -- mul-v
+    (λ c. search needs)  -- array-copy-out-v
+    (λ c. search needs)  -- add-x
+    (λ c. search needs)  -- mul-x
+    (λ c. search needs)  -- array-copy-out-x
     quad-word-requires-2
     put-requires-2
-    add-k
-    loop-less
+    (λ c. search needs)  -- add-k
+    (λ c. search needs)  -- loop-less
     loop-again
-    same-length
+    (λ c. search needs)  -- same-length
     returns)

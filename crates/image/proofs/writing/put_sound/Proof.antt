@@ -12,26 +12,25 @@ use borrow.Author.Needs.{needs}
 use Rattle.image.proofs.writing.put_sound.Statement.{statement}
 use Rattle.image.proofs.writing.put_sound.Tie as tie
 
-put-ram-requires : tie.Need-put-ram-requires
-put-ram-requires c κs = search needs
-
 port-word-requires : tie.Need-port-word-requires
-port-word-requires c κs = let f = sound-facts _ (c .before .before .before .before .before .before .pre .1) in (f .addr, f .counter, f .channel)
-
-put-requires : tie.Need-put-requires
-put-requires c κs = search needs
+port-word-requires c κs =
+    let c6 = c .before .before .before .before .before .before in
+    let f = sound-facts _ (c6 .pre .1) in (f .addr, f .counter, f .channel)
 
 put-levels-requires : tie.Need-put-levels-requires
-put-levels-requires c κs = (search needs, sound-facts _ (c .before .before .before .before .before .before .before .before .before .before .before .before .before .pre .1) .outputs)
+put-levels-requires c κs =
+    let c13 = c .before .before .before .before .before .before .before .before .before .before .before .before .before in
+    (search needs, sound-facts _ (c13 .pre .1) .outputs)
 
 put-out-requires : tie.Need-put-out-requires
-put-out-requires c κs = (search needs, sound-facts _ (c .before .before .before .before .before .before .before .before .before .before .before .before .before .before .before .before .before .pre .1) .out)
+put-out-requires c κs =
+    let c17 = c .before .before .before .before .before .before .before .before .before .before .before .before .before .before .before .before .before in
+    (search needs, sound-facts _ (c17 .pre .1) .out)
 
 put-phases-requires : tie.Need-put-phases-requires
-put-phases-requires c κs = (search needs, sound-facts _ (c .before .before .before .before .before .before .before .before .before .before .before .before .before .before .before .before .before .before .before .before .before .before .pre .1) .phases)
-
-same-length : tie.Need-same-length
-same-length c = search needs
+put-phases-requires c κs =
+    let c22 = c .before .before .before .before .before .before .before .before .before .before .before .before .before .before .before .before .before .before .before .before .before .before in
+    (search needs, sound-facts _ (c22 .pre .1) .phases)
 
 -- what the types say of the arrays
 long-ram : (c : tie.Start) → length (c .args .audio .ram) ≡ 128
@@ -46,28 +45,34 @@ long-phase-ext c = search needs
 returns : tie.Need-returns
 unfolding total
 returns c =
-    let a = c .before .before .before .before .before .before .before .before .before .before .before .before .before .before .before .before .before .before .before .before .before .before .before .before .before .args .audio in
-    let lr : length (a .ram) ≡ 128 = long-ram (c .before .before .before .before .before .before .before .before .before .before .before .before .before .before .before .before .before .before .before .before .before .before .before .before .before) in
-    let lo : length (a .«channel_out») ≡ 8 = long-channel-out (c .before .before .before .before .before .before .before .before .before .before .before .before .before .before .before .before .before .before .before .before .before .before .before .before .before) in
-    let lp : length (a .«phase_ext») ≡ 8 = long-phase-ext (c .before .before .before .before .before .before .before .before .before .before .before .before .before .before .before .before .before .before .before .before .before .before .before .before .before) in
+    let c2 = c .before .before in let c7 = c2 .before .before .before .before .before in
+    let c11 = c7 .before .before .before .before in let c16 = c11 .before .before .before .before .before in
+    let c18 = c16 .before .before in let c21 = c18 .before .before .before in
+    let c25 = c21 .before .before .before .before in
+    let a = c25 .args .audio in
+    let lr : length (a .ram) ≡ 128 = long-ram c25 in
+    let lo : length (a .«channel_out») ≡ 8 = long-channel-out c25 in
+    let lp : length (a .«phase_ext») ≡ 8 = long-phase-ext c25 in
     let port = a .addr ∷ bit (a .«auto_increment») ∷ bit (a .disabled) ∷ a .«update_counter» ∷ a .«current_channel» ∷ [] in
-    wrote-part _ _ _ _ _ _ (replicate 128 8) (a .ram) _ _ (sym lr) (c .before .before .before .before .before .before .before .before .before .before .before .before .before .before .before .before .before .before .before .before .before .put-ram .ensures)
+    wrote-part _ _ _ _ _ _ (replicate 128 8) (a .ram) _ _ (sym lr) (c21 .put-ram .ensures)
     (wrote-part _ _ _ _ _ _ (7 ∷ 1 ∷ 1 ∷ 4 ∷ 3 ∷ []) port _ _ refl
-    (wrote-to _ _ 151 153 _ _ _ (omega arith) (wrote-word _ _ _ _ (7 ∷ 1 ∷ 1 ∷ 4 ∷ 3 ∷ []) port (rw (c .before .before .before .before .before .before .before .before .before .before .before .before .before .before .before .before .before .before .port-word .ensures .0) at (c .before .before .before .before .before .before .before .before .before .before .before .before .before .before .before .before .put .ensures))))
-    (wrote-part _ _ _ _ _ _ (replicate 8 12) (map levelNum (a .«channel_out»)) _ _ (sym (length-map (a .«channel_out») levelNum ∙ lo)) (c .before .before .before .before .before .before .before .before .before .before .before .put-levels .ensures)
-    (wrote-part _ _ _ _ _ _ _ _ _ _ refl (c .before .before .before .before .before .before .before .put-out .ensures)
-    (wrote-part _ _ _ _ _ _ (replicate 8 24) (a .«phase_ext») [] [] (sym lp) (c .before .before .put-phases .ensures)
+    (wrote-to _ _ 151 153 _ _ _ (omega arith)
+    (wrote-word _ _ _ _ (7 ∷ 1 ∷ 1 ∷ 4 ∷ 3 ∷ []) port (rw (c18 .port-word .ensures .0) at (c16 .put .ensures))))
+    (wrote-part _ _ _ _ _ _ (replicate 8 12) (map levelNum (a .«channel_out»)) _ _
+    (sym (length-map (a .«channel_out») levelNum ∙ lo)) (c11 .put-levels .ensures)
+    (wrote-part _ _ _ _ _ _ _ _ _ _ refl (c7 .put-out .ensures)
+    (wrote-part _ _ _ _ _ _ (replicate 8 24) (a .«phase_ext») [] [] (sym lp) (c2 .put-phases .ensures)
     (wrote-done _ 193)))))
 
 pub put-sound-spec : {M : Type 1} → statement M
 put-sound-spec =
     tie.close
     (tie.spec
-    put-ram-requires
+    (λ c κs. search needs)  -- put-ram-requires
     port-word-requires
-    put-requires
+    (λ c κs. search needs)  -- put-requires
     put-levels-requires
     put-out-requires
     put-phases-requires
-    same-length
+    (λ c. search needs)  -- same-length
     returns)

@@ -7,25 +7,18 @@ use borrow.Author.Needs.{needs}
 use Rattle.memory.proofs.Memory.chr_write.Statement.{statement}
 use Rattle.memory.proofs.Memory.chr_write.Tie as tie
 
-cast-i : tie.Need-cast-i
-cast-i c = search needs
-
-mul-page : tie.Need-mul-page
-mul-page c = search needs
-
-element-copy-out-page : tie.Need-element-copy-out-page
-element-copy-out-page c = search needs
-
 page-write-requires : tie.Need-page-write-requires
-page-write-requires c κs = chr-page (c .before .before .before .args .t1) (now (c .before .before .before .args .arena)) (c .before .before .before .pre) (c .before .before .before .args .addr / 1024 % 16) (omega arith)
-
-same-length : tie.Need-same-length
-same-length c = search needs
-
-returns : tie.Need-returns
-returns c = search needs
+page-write-requires c κs =
+    let c3 = c .before .before .before in
+    chr-page (c3 .args .t1) (now (c3 .args .arena)) (c3 .pre) (c3 .args .addr / 1024 % 16) (omega arith)
 
 pub chr-write-spec : {M : Type 1} → statement M
 chr-write-spec =
     tie.close
-    (tie.spec cast-i mul-page element-copy-out-page page-write-requires same-length returns)
+    (tie.spec
+    (λ c. search needs)  -- cast-i
+    (λ c. search needs)  -- mul-page
+    (λ c. search needs)  -- element-copy-out-page
+    page-write-requires
+    (λ c. search needs)  -- same-length
+    (λ c. search needs))  -- returns

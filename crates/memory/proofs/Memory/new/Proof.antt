@@ -6,15 +6,13 @@ use borrow.Author.Needs.{needs}
 use Rattle.memory.proofs.Memory.new.Statement.{statement}
 use Rattle.memory.proofs.Memory.new.Tie as tie
 
-new-requires : tie.Need-new-requires
-new-requires c κs = search needs
-
 set-mirroring-requires : tie.Need-set-mirroring-requires
-set-mirroring-requires c κs = record { layout = rw (c .new .ensures) (layout-good (c .before .args .sizes) (c .before .pre)); used = omega arith }
+set-mirroring-requires c κs =
+    record { layout = rw (c .new .ensures) (layout-good (c .before .args .sizes) (c .before .pre)); used = omega arith }
 
 returns : tie.Need-returns
 unfolding newMemory unmappedMemory
 returns c = (rw (c .set-mirroring .ensures .0, c .before .new .ensures), c .set-mirroring .ensures .1)
 
 pub new-spec : {M : Type 1} → statement M
-new-spec = tie.close (tie.spec new-requires set-mirroring-requires returns)
+new-spec = tie.close (tie.spec (λ c κs. search needs) set-mirroring-requires returns)

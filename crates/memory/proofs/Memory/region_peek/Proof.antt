@@ -5,14 +5,13 @@ use borrow.Author.Needs.{needs}
 use Rattle.memory.proofs.Memory.region_peek.Statement.{statement}
 use Rattle.memory.proofs.Memory.region_peek.Tie as tie
 
-region-requires : tie.Need-region-requires
-region-requires c κs = search needs
-
 region-byte-requires : tie.Need-region-byte-requires
-region-byte-requires c κs = rw (c .region .ensures .0) (region-backed (c .before .before .before .args .self) (now (c .before .before .before .args .arena)) (c .before .before .before .pre) (c .before .before .before .args .src))
+region-byte-requires c κs =
+    let c3 = c .before .before .before in
+    rw (c .region .ensures .0) (region-backed (c3 .args .self) (now (c3 .args .arena)) (c3 .pre) (c3 .args .src))
 
 returns : tie.Need-returns
 returns c = rw (c .region-byte .ensures, c .before .region .ensures .0)
 
 pub region-peek-spec : {M : Type 1} → statement M
-region-peek-spec = tie.close (tie.spec region-requires region-byte-requires returns)
+region-peek-spec = tie.close (tie.spec (λ c κs. search needs) region-byte-requires returns)

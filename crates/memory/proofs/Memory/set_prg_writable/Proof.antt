@@ -4,12 +4,6 @@ use borrow.Author.Needs.{needs}
 use Rattle.memory.proofs.Memory.set_prg_writable.Statement.{statement}
 use Rattle.memory.proofs.Memory.set_prg_writable.Tie as tie
 
-cast-set-writable : tie.Need-cast-set-writable
-cast-set-writable c = search needs
-
-set-writable-requires : tie.Need-set-writable-requires
-set-writable-requires c κs = search needs
-
 returns : tie.Need-returns
 unfolding setPrgWritable
 returns c = (
@@ -18,4 +12,4 @@ returns c = (
 )
 
 pub set-prg-writable-spec : {M : Type 1} → statement M
-set-prg-writable-spec = tie.close (tie.spec cast-set-writable set-writable-requires returns)
+set-prg-writable-spec = tie.close (tie.spec (λ c. search needs) (λ c κs. search needs) returns)

@@ -5,15 +5,9 @@ use borrow.Author.Needs.{needs}
 use Rattle.memory.proofs.Memory.sram.Statement.{statement}
 use Rattle.memory.proofs.Memory.sram.Tie as tie
 
-region-requires : tie.Need-region-requires
-region-requires c κs = search needs
-
-add-t5 : tie.Need-add-t5
-add-t5 c = search needs
-
 returns : tie.Need-returns
 unfolding sramOf regionOf
 returns c = rw (c .before .before .region .ensures .0)
 
 pub sram-spec : {M : Type 1} → statement M
-sram-spec = tie.close (tie.spec region-requires add-t5 returns)
+sram-spec = tie.close (tie.spec (λ c κs. search needs) (λ c. search needs) returns)

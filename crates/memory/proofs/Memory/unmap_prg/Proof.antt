@@ -4,12 +4,6 @@ use borrow.Author.Needs.{needs}
 use Rattle.memory.proofs.Memory.unmap_prg.Statement.{statement}
 use Rattle.memory.proofs.Memory.unmap_prg.Tie as tie
 
-cast-unmap-pages : tie.Need-cast-unmap-pages
-cast-unmap-pages c = search needs
-
-unmap-pages-requires : tie.Need-unmap-pages-requires
-unmap-pages-requires c κs = search needs
-
 returns : tie.Need-returns
 unfolding unmapPrg
 returns c = (
@@ -18,4 +12,4 @@ returns c = (
 )
 
 pub unmap-prg-spec : {M : Type 1} → statement M
-unmap-prg-spec = tie.close (tie.spec cast-unmap-pages unmap-pages-requires returns)
+unmap-prg-spec = tie.close (tie.spec (λ c. search needs) (λ c κs. search needs) returns)

@@ -19,26 +19,24 @@ abbrev μ-loop : tie.MeasureT-loop
 loop-holds : tie.Need-loop-holds Inv-loop μ-loop
 loop-holds c = (omega arith, refl, refl)
 
-shared-slice-read-dst : tie.Need-shared-slice-read-dst Inv-loop μ-loop
-shared-slice-read-dst c = search needs
-
-slice-write-dst : tie.Need-slice-write-dst Inv-loop μ-loop
-slice-write-dst c = search needs
-
-add-i : tie.Need-add-i Inv-loop μ-loop
-add-i c = search needs
-
-loop-less : tie.Need-loop-less Inv-loop μ-loop
-loop-less c = search needs
-
 loop-again : tie.Need-loop-again Inv-loop μ-loop
-loop-again c = (search needs, search needs, rw (add-one, take-suc-set (c .before .before .loop .dst) (c .before .before .loop .i) (getD (now (c .before .before .before .args .src)) (c .before .before .loop .i) 0) (omega arith), take-suc (now (c .before .before .before .args .src)) (c .before .before .loop .i) 0 (omega arith), c .before .before .loop .inv .2))
-
-same-length : tie.Need-same-length Inv-loop μ-loop
-same-length c = search needs
+loop-again c =
+    let c2 = c .before .before in let c3 = c2 .before in (
+      search needs,
+      search needs,
+      rw (
+        add-one,
+        take-suc-set (c2 .loop .dst) (c2 .loop .i) (getD (now (c3 .args .src)) (c2 .loop .i) 0) (omega arith),
+        take-suc (now (c3 .args .src)) (c2 .loop .i) 0 (omega arith),
+        c2 .loop .inv .2,
+      ),
+    )
 
 returns : tie.Need-returns Inv-loop μ-loop
-returns c = sym (take-all (c .before .loop .i) (c .before .loop .dst) (omega arith)) ∙ c .before .loop .inv .2 ∙ take-all (c .before .loop .i) (now (c .before .before .args .src)) (omega arith)
+returns c =
+    let c1 = c .before in let c2 = c1 .before in
+    sym (take-all (c1 .loop .i) (c1 .loop .dst) (omega arith)) ∙ c1 .loop .inv .2
+    ∙ take-all (c1 .loop .i) (now (c2 .args .src)) (omega arith)
 
 pub copy-spec : {M : Type 1} → statement M
 copy-spec =
@@ -47,10 +45,10 @@ copy-spec =
     Inv-loop
     μ-loop
     loop-holds
-    shared-slice-read-dst
-    slice-write-dst
-    add-i
-    loop-less
+    (λ c. search needs)  -- shared-slice-read-dst
+    (λ c. search needs)  -- slice-write-dst
+    (λ c. search needs)  -- add-i
+    (λ c. search needs)  -- loop-less
     loop-again
-    same-length
+    (λ c. search needs)  -- same-length
     returns)

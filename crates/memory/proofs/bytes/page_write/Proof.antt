@@ -4,18 +4,6 @@ use borrow.Author.Needs.{needs}
 use Rattle.memory.proofs.bytes.page_write.Statement.{statement}
 use Rattle.memory.proofs.bytes.page_write.Tie as tie
 
-is-writable-requires : tie.Need-is-writable-requires
-is-writable-requires c κs = search needs
-
-shown-at-requires : tie.Need-shown-at-requires
-shown-at-requires c κs = search needs
-
-slice-write-arena : tie.Need-slice-write-arena
-slice-write-arena c = search needs
-
-same-length : tie.Need-same-length
-same-length c = search needs
-
 returns : tie.Need-returns
 unfolding storedAt
 returns c = rw (← c .before .before .is-writable .ensures, c .before .if1 .taken, c .shown-at .ensures .0)
@@ -28,9 +16,9 @@ pub page-write-spec : {M : Type 1} → statement M
 page-write-spec =
     tie.close
     (tie.spec
-    is-writable-requires
-    shown-at-requires
-    slice-write-arena
-    same-length
+    (λ c κs. search needs)  -- is-writable-requires
+    (λ c κs. search needs)  -- shown-at-requires
+    (λ c. search needs)  -- slice-write-arena
+    (λ c. search needs)  -- same-length
     returns
     returns-2)

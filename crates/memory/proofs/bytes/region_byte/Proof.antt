@@ -9,16 +9,9 @@ returns : tie.Need-returns
 unfolding wrappedAt
 returns c = rw (eq-eqb _ _ (c .if1 .taken))
 
-wrapped-at-requires : tie.Need-wrapped-at-requires
-wrapped-at-requires c κs = search needs
-
-shared-slice-read-result : tie.Need-shared-slice-read-result
-shared-slice-read-result c = search needs
-
 returns-2 : tie.Need-returns-2
 unfolding wrappedAt
 returns-2 c = rw (ne-eqb _ _ (c .before .before .if1 .left), c .before .wrapped-at .ensures .0)
 
 pub region-byte-spec : {M : Type 1} → statement M
-region-byte-spec =
-    tie.close (tie.spec returns wrapped-at-requires shared-slice-read-result returns-2)
+region-byte-spec = tie.close (tie.spec returns (λ c κs. search needs) (λ c. search needs) returns-2)

@@ -5,15 +5,6 @@ use borrow.Author.Needs.{needs}
 use Rattle.memory.proofs.bytes.set_region_byte.Statement.{statement}
 use Rattle.memory.proofs.bytes.set_region_byte.Tie as tie
 
-wrapped-at-requires : tie.Need-wrapped-at-requires
-wrapped-at-requires c κs = search needs
-
-slice-write-arena : tie.Need-slice-write-arena
-slice-write-arena c = search needs
-
-same-length : tie.Need-same-length
-same-length c = search needs
-
 returns : tie.Need-returns
 unfolding wrappedAt
 returns c = rw (ne-eqb _ _ (c .before .if1 .taken), c .wrapped-at .ensures .0)
@@ -24,4 +15,10 @@ returns-2 c = rw (eq-eqb _ _ (c .if1 .left))
 
 pub set-region-byte-spec : {M : Type 1} → statement M
 set-region-byte-spec =
-    tie.close (tie.spec wrapped-at-requires slice-write-arena same-length returns returns-2)
+    tie.close
+    (tie.spec
+    (λ c κs. search needs)  -- wrapped-at-requires
+    (λ c. search needs)  -- slice-write-arena
+    (λ c. search needs)  -- same-length
+    returns
+    returns-2)

@@ -6,9 +6,6 @@ use borrow.Author.Needs.{needs}
 use Rattle.memory.proofs.bytes.wrapped_at.Statement.{statement}
 use Rattle.memory.proofs.bytes.wrapped_at.Tie as tie
 
-rem-result : tie.Need-rem-result
-rem-result c = search needs
-
 add-result : tie.Need-add-result
 add-result c = record { fits = omega (arith, mod-lt (c .before .args .offset) (c .before .pre .0)) }
 
@@ -16,4 +13,4 @@ returns : tie.Need-returns
 returns c = (refl, omega (arith, mod-lt (c .before .args .offset) (c .before .pre .0)))
 
 pub wrapped-at-spec : {M : Type 1} → statement M
-wrapped-at-spec = tie.close (tie.spec rem-result add-result returns)
+wrapped-at-spec = tie.close (tie.spec (λ c. search needs) add-result returns)

@@ -20,50 +20,34 @@ loop-holds c = let a : length (c .args .t1) ≡ 16 = search needs in
     let b : length (c .args .t2) ≡ 16 = search needs in
     (omega arith, a, b, changed-none (c .args .t1) (c .args .t2) 16 (omega arith))
 
-sub-i : tie.Need-sub-i Inv-loop μ-loop
-sub-i c = search needs
-
-mul-a : tie.Need-mul-a Inv-loop μ-loop
-mul-a c = search needs
-
-array-copy-out-a : tie.Need-array-copy-out-a Inv-loop μ-loop
-array-copy-out-a c = search needs
-
-mul-b : tie.Need-mul-b Inv-loop μ-loop
-mul-b c = search needs
-
-array-copy-out-b : tie.Need-array-copy-out-b Inv-loop μ-loop
-array-copy-out-b c = search needs
-
 mul-mask : tie.Need-mul-mask Inv-loop μ-loop
-mul-mask c = record {
-  fits =
-      rw (c .before .before .before .loop .inv .3)
-      (omega (arith, changed-below (c .before .before .before .before .args .t1) (c .before .before .before .before .args .t2) (c .before .before .before .loop .i) 15 (omega arith)));
-}
-
-differs-requires : tie.Need-differs-requires Inv-loop μ-loop
-differs-requires c κs = search needs
-
-cast-mask : tie.Need-cast-mask Inv-loop μ-loop
-cast-mask c = search needs
+mul-mask c =
+    let c3 = c .before .before .before in let c4 = c3 .before in
+    record {
+      fits =
+          rw (c3 .loop .inv .3)
+          (omega (arith, changed-below (c4 .args .t1) (c4 .args .t2) (c3 .loop .i) 15 (omega arith)));
+    }
 
 -- the mask with the next entry
 next : (c : tie.After-differs Inv-loop μ-loop)
     → c .before .before .before .before .loop .mask * 2 + c .differs .result
-    ≡ changed (drop (c .before .before .before .before .loop .i - 1) (c .before .before .before .before .before .args .t1)) (drop (c .before .before .before .before .loop .i - 1) (c .before .before .before .before .before .args .t2))
+    ≡ changed (drop (c .before .before .before .before .loop .i - 1) (c .before .before .before .before .before .args .t1))
+    (drop (c .before .before .before .before .loop .i - 1) (c .before .before .before .before .before .args .t2))
 next c =
-    rw (c .differs .ensures .0, c .before .before .before .before .loop .inv .3)
-    (changed-step (c .before .before .before .before .before .args .t1) (c .before .before .before .before .before .args .t2) (c .before .before .before .before .loop .i) (omega arith) (omega arith) (omega arith))
+    let c4 = c .before .before .before .before in let c5 = c4 .before in
+    rw (c .differs .ensures .0, c4 .loop .inv .3)
+    (changed-step (c5 .args .t1) (c5 .args .t2) (c4 .loop .i) (omega arith) (omega arith) (omega arith))
 
 add-mask : tie.Need-add-mask Inv-loop μ-loop
-add-mask c = record { fits = rw (next c) (changed-below (c .before .before .before .before .before .args .t1) (c .before .before .before .before .before .args .t2) (c .before .before .before .before .loop .i - 1) 16 (omega arith)) }
-
-loop-less : tie.Need-loop-less Inv-loop μ-loop
-loop-less c = search needs
+add-mask c =
+    let c4 = c .before .before .before .before in let c5 = c4 .before in
+    record { fits = rw (next c) (changed-below (c5 .args .t1) (c5 .args .t2) (c4 .loop .i - 1) 16 (omega arith)) }
 
 loop-again : tie.Need-loop-again Inv-loop μ-loop
-loop-again c = (omega arith, c .before .before .before .before .loop .inv .1, c .before .before .before .before .loop .inv .2, next c)
+loop-again c =
+    let c4 = c .before .before .before .before in
+    (omega arith, c4 .loop .inv .1, c4 .loop .inv .2, next c)
 
 returns : tie.Need-returns Inv-loop μ-loop
 returns c = let e : c .before .loop .i ≡ 0 = omega arith in rw e at (c .before .loop .inv .3)
@@ -75,15 +59,15 @@ changed-chr-spec =
     Inv-loop
     μ-loop
     loop-holds
-    sub-i
-    mul-a
-    array-copy-out-a
-    mul-b
-    array-copy-out-b
+    (λ c. search needs)  -- sub-i
+    (λ c. search needs)  -- mul-a
+    (λ c. search needs)  -- array-copy-out-a
+    (λ c. search needs)  -- mul-b
+    (λ c. search needs)  -- array-copy-out-b
     mul-mask
-    differs-requires
-    cast-mask
+    (λ c κs. search needs)  -- differs-requires
+    (λ c. search needs)  -- cast-mask
     add-mask
-    loop-less
+    (λ c. search needs)  -- loop-less
     loop-again
     returns)

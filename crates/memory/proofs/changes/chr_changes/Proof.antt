@@ -8,9 +8,6 @@ use borrow.Author.Needs.{needs}
 use Rattle.memory.proofs.changes.chr_changes.Statement.{statement}
 use Rattle.memory.proofs.changes.chr_changes.Tie as tie
 
-changed-chr-requires : tie.Need-changed-chr-requires
-changed-chr-requires c κs = search needs
-
 returns : tie.Need-returns
 unfolding chrChanges
 returns c = let old = c .before .args .old in
@@ -20,4 +17,4 @@ returns c = let old = c .before .args .old in
     rw (c .changed-chr .ensures, ones-changed old new, lowest)
 
 pub chr-changes-spec : {M : Type 1} → statement M
-chr-changes-spec = tie.close (tie.spec changed-chr-requires returns)
+chr-changes-spec = tie.close (tie.spec (λ c κs. search needs) returns)

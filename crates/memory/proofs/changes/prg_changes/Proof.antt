@@ -8,9 +8,6 @@ use borrow.Author.Needs.{needs}
 use Rattle.memory.proofs.changes.prg_changes.Statement.{statement}
 use Rattle.memory.proofs.changes.prg_changes.Tie as tie
 
-changed-prg-requires : tie.Need-changed-prg-requires
-changed-prg-requires c κs = search needs
-
 returns : tie.Need-returns
 unfolding prgChanges
 returns c = let old = c .before .args .old in
@@ -20,4 +17,4 @@ returns c = let old = c .before .args .old in
     rw (c .changed-prg .ensures, ones-changed old new, lowest)
 
 pub prg-changes-spec : {M : Type 1} → statement M
-prg-changes-spec = tie.close (tie.spec changed-prg-requires returns)
+prg-changes-spec = tie.close (tie.spec (λ c κs. search needs) returns)

@@ -14,22 +14,25 @@ use Rattle.memory.proofs.windows.bank_index.Statement.{statement}
 use Rattle.memory.proofs.windows.bank_index.Tie as tie
 
 below : (c : tie.Then1) → ltZ (c .before .args .bank) (pos 0) ≡ true
-below c = let t : ltZ (toZ w32 (ofZ w32 (c .before .args .bank))) (pos 0) ≡ true = c .if1 .taken in rw (toZ-ofZ (c .before .fits .bank)) at t
+below c =
+    let t : ltZ (toZ w32 (ofZ w32 (c .before .args .bank))) (pos 0) ≡ true = c .if1 .taken in
+    rw (toZ-ofZ (c .before .fits .bank)) at t
 
 above : (c : tie.Else1) → ltZ (c .before .args .bank) (pos 0) ≡ false
-above c = let t : ltZ (toZ w32 (ofZ w32 (c .before .args .bank))) (pos 0) ≡ false = c .if1 .left in rw (toZ-ofZ (c .before .fits .bank)) at t
+above c =
+    let t : ltZ (toZ w32 (ofZ w32 (c .before .args .bank))) (pos 0) ≡ false = c .if1 .left in
+    rw (toZ-ofZ (c .before .fits .bank)) at t
 
 sub-below : tie.Need-sub-below
-sub-below c = rw (toZ-ofZ (c .before .fits .bank), below-one (c .before .args .bank) (below c)) (record { sfits = c .before .fits .bank .sfits })
+sub-below c =
+    rw (toZ-ofZ (c .before .fits .bank), below-one (c .before .args .bank) (below c))
+    (record { sfits = c .before .fits .bank .sfits })
 
 cast-below : tie.Need-cast-below
-cast-below c = rw (toZ-ofZ (c .before .fits .bank), below-one (c .before .args .bank) (below c), toZ-pos w32 (c .before .fits .bank .sfits)) (tt, record { fits = omega (arith, c .before .fits .bank .sfits) })
-
-sub-result : tie.Need-sub-result
-sub-result c = search needs
-
-rem-result : tie.Need-rem-result
-rem-result c = search needs
+cast-below c =
+    let c1 = c .before in
+    rw (toZ-ofZ (c1 .fits .bank), below-one (c1 .args .bank) (below c), toZ-pos w32 (c1 .fits .bank .sfits))
+    (tt, record { fits = omega (arith, c1 .fits .bank .sfits) })
 
 sub-result-2 : tie.Need-sub-result-2
 sub-result-2 c =
@@ -38,13 +41,18 @@ sub-result-2 c =
 
 returns : tie.Need-returns
 returns c =
-    rw (toZ-ofZ (c .before .fits .bank), below-one (c .before .args .bank) (below c), toZ-pos w32 (c .before .fits .bank .sfits), modulo-below (c .before .args .bank) (c .before .args .banks) (below c))
+    let c1 = c .before in
+    rw (
+      toZ-ofZ (c1 .fits .bank),
+      below-one (c1 .args .bank) (below c),
+      toZ-pos w32 (c1 .fits .bank .sfits),
+      modulo-below (c1 .args .bank) (c1 .args .banks) (below c),
+    )
 
 cast-result : tie.Need-cast-result
-cast-result c = rw (toZ-ofZ (c .before .fits .bank)) (not-below (c .before .args .bank) (above c), fits-natAbs {w = w32} tt (c .before .fits .bank))
-
-rem-result-2 : tie.Need-rem-result-2
-rem-result-2 c = search needs
+cast-result c =
+    rw (toZ-ofZ (c .before .fits .bank))
+    (not-below (c .before .args .bank) (above c), fits-natAbs {w = w32} tt (c .before .fits .bank))
 
 returns-2 : tie.Need-returns-2
 returns-2 c = rw (toZ-ofZ (c .before .fits .bank)) (modulo-above (c .before .args .bank) (c .before .args .banks) (above c))
@@ -55,10 +63,10 @@ bank-index-spec =
     (tie.spec
     sub-below
     cast-below
-    sub-result
-    rem-result
+    (λ c. search needs)  -- sub-result
+    (λ c. search needs)  -- rem-result
     sub-result-2
     returns
     cast-result
-    rem-result-2
+    (λ c. search needs)  -- rem-result-2
     returns-2)

@@ -6,11 +6,8 @@ use borrow.Author.Needs.{needs}
 use Rattle.memory.proofs.windows.bank_of.Statement.{statement}
 use Rattle.memory.proofs.windows.bank_of.Tie as tie
 
-cast-result : tie.Need-cast-result
-cast-result c = search needs
-
 returns : tie.Need-returns
 returns c = toZ-pos w32 (omega (arith, c .fits .register))
 
 pub bank-of-spec : {M : Type 1} → statement M
-bank-of-spec = tie.close (tie.spec cast-result returns)
+bank-of-spec = tie.close (tie.spec (λ c. search needs) returns)

@@ -5,9 +5,6 @@ use borrow.Author.Needs.{needs}
 use Rattle.memory.proofs.windows.banks.Statement.{statement}
 use Rattle.memory.proofs.windows.banks.Tie as tie
 
-div-whole : tie.Need-div-whole
-div-whole c = search needs
-
 returns : tie.Need-returns
 unfolding banksOf
 returns c = (omega arith, omega arith)
@@ -17,4 +14,4 @@ unfolding banksOf
 returns-2 c = (omega arith, omega arith)
 
 pub banks-spec : {M : Type 1} → statement M
-banks-spec = tie.close (tie.spec div-whole returns returns-2)
+banks-spec = tie.close (tie.spec (λ c. search needs) returns returns-2)

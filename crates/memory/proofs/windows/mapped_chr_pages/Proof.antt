@@ -5,15 +5,6 @@ use borrow.Author.Needs.{needs}
 use Rattle.memory.proofs.windows.mapped_chr_pages.Statement.{statement}
 use Rattle.memory.proofs.windows.mapped_chr_pages.Tie as tie
 
-window-base-requires : tie.Need-window-base-requires
-window-base-requires c κs = search needs
-
-cast-show-chr-pages : tie.Need-cast-show-chr-pages
-cast-show-chr-pages c = search needs
-
-show-chr-pages-requires : tie.Need-show-chr-pages-requires
-show-chr-pages-requires c κs = search needs
-
 returns : tie.Need-returns
 unfolding mapPages
 returns c = (
@@ -22,4 +13,4 @@ returns c = (
 )
 
 pub mapped-chr-pages-spec : {M : Type 1} → statement M
-mapped-chr-pages-spec = tie.close (tie.spec window-base-requires cast-show-chr-pages show-chr-pages-requires returns)
+mapped-chr-pages-spec = tie.close (tie.spec (λ c κs. search needs) (λ c. search needs) (λ c κs. search needs) returns)

@@ -12,19 +12,13 @@ returns : tie.Need-returns
 unfolding regionPage
 returns c = rw (eq-eqb _ _ (c .if1 .taken))
 
-rem-new : tie.Need-rem-new
-rem-new c = search needs
-
 add-new : tie.Need-add-new
 add-new c = let some : 0 < c .before .before .args .region .len = omega arith in
     record { fits = omega (arith, mod-lt (c .before .before .args .offset) some) }
-
-new-requires : tie.Need-new-requires
-new-requires c κs = search needs
 
 returns-2 : tie.Need-returns-2
 unfolding regionPage
 returns-2 c = rw (ne-eqb _ _ (c .before .before .if1 .left), c .new .ensures)
 
 pub region-page-spec : {M : Type 1} → statement M
-region-page-spec = tie.close (tie.spec returns rem-new add-new new-requires returns-2)
+region-page-spec = tie.close (tie.spec returns (λ c. search needs) add-new (λ c κs. search needs) returns-2)

@@ -10,7 +10,8 @@ use Rattle.memory.proofs.windows.set_writable.Statement.{statement}
 use Rattle.memory.proofs.windows.set_writable.Tie as tie
 
 abbrev Inv-loop : tie.InvT-loop
-Inv-loop slot size writable count out₀ i₀ out i = (i ≤ count) × (count ≡ size / 1024) × (length out ≡ 64) × (out ≡ eachPage 64 (λ j old. withFlag writable old) slot i out₀)
+Inv-loop slot size writable count out₀ i₀ out i =
+    (i ≤ count) × (count ≡ size / 1024) × (length out ≡ 64) × (out ≡ eachPage 64 (λ j old. withFlag writable old) slot i out₀)
 
 abbrev μ-loop : tie.MeasureT-loop
 μ-loop slot size writable count out₀ i₀ out i = count - i
@@ -19,37 +20,17 @@ loop-holds : tie.Need-loop-holds Inv-loop μ-loop
 unfolding eachPage
 loop-holds c = (search needs, refl, search needs, refl)
 
-add-at : tie.Need-add-at Inv-loop μ-loop
-add-at c = search needs
-
-mul-page : tie.Need-mul-page Inv-loop μ-loop
-mul-page c = search needs
-
-array-copy-out-page : tie.Need-array-copy-out-page Inv-loop μ-loop
-array-copy-out-page c = search needs
-
-with-flag-requires : tie.Need-with-flag-requires Inv-loop μ-loop
-with-flag-requires c κs = search needs
-
-mul-out : tie.Need-mul-out Inv-loop μ-loop
-mul-out c = search needs
-
-array-set-from-out : tie.Need-array-set-from-out Inv-loop μ-loop
-array-set-from-out c = search needs
-
-add-i : tie.Need-add-i Inv-loop μ-loop
-add-i c = search needs
-
-loop-less : tie.Need-loop-less Inv-loop μ-loop
-loop-less c = search needs
-
 loop-again : tie.Need-loop-again Inv-loop μ-loop
 unfolding eachPage
-loop-again c = (search needs, c .before .before .before .loop .inv .1, search needs, rw (add-one, c .with-flag .ensures, c .before .before .before .loop .inv .3))
+loop-again c =
+    let c3 = c .before .before .before in
+    (search needs, c3 .loop .inv .1, search needs, rw (add-one, c .with-flag .ensures, c3 .loop .inv .3))
 
 returns : tie.Need-returns Inv-loop μ-loop
 unfolding setWritable
-returns c = (let e : c .before .loop .i ≡ c .before .before .args .size / 1024 = omega arith in rw e at (c .before .loop .inv .3), c .before .loop .inv .2)
+returns c =
+    let c1 = c .before in let c2 = c1 .before in
+    (let e : c1 .loop .i ≡ c2 .args .size / 1024 = omega arith in rw e at (c1 .loop .inv .3), c1 .loop .inv .2)
 
 pub set-writable-spec : {M : Type 1} → statement M
 set-writable-spec =
@@ -58,13 +39,13 @@ set-writable-spec =
     Inv-loop
     μ-loop
     loop-holds
-    add-at
-    mul-page
-    array-copy-out-page
-    with-flag-requires
-    mul-out
-    array-set-from-out
-    add-i
-    loop-less
+    (λ c. search needs)  -- add-at
+    (λ c. search needs)  -- mul-page
+    (λ c. search needs)  -- array-copy-out-page
+    (λ c κs. search needs)  -- with-flag-requires
+    (λ c. search needs)  -- mul-out
+    (λ c. search needs)  -- array-set-from-out
+    (λ c. search needs)  -- add-i
+    (λ c. search needs)  -- loop-less
     loop-again
     returns)

@@ -11,7 +11,8 @@ use Rattle.memory.proofs.windows.unmap_pages.Statement.{statement}
 use Rattle.memory.proofs.windows.unmap_pages.Tie as tie
 
 abbrev Inv-loop : tie.InvT-loop
-Inv-loop slot size count out₀ i₀ out i = (i ≤ count) × (count ≡ size / 1024) × (length out ≡ 64) × (out ≡ eachPage 64 (λ j old. unmapped) slot i out₀)
+Inv-loop slot size count out₀ i₀ out i =
+    (i ≤ count) × (count ≡ size / 1024) × (length out ≡ 64) × (out ≡ eachPage 64 (λ j old. unmapped) slot i out₀)
 
 abbrev μ-loop : tie.MeasureT-loop
 μ-loop slot size count out₀ i₀ out i = count - i
@@ -20,28 +21,15 @@ loop-holds : tie.Need-loop-holds Inv-loop μ-loop
 unfolding eachPage
 loop-holds c = (search needs, refl, search needs, refl)
 
-add-out : tie.Need-add-out Inv-loop μ-loop
-add-out c = search needs
-
-mul-out : tie.Need-mul-out Inv-loop μ-loop
-mul-out c = search needs
-
-array-set-from-out : tie.Need-array-set-from-out Inv-loop μ-loop
-array-set-from-out c = search needs
-
-add-i : tie.Need-add-i Inv-loop μ-loop
-add-i c = search needs
-
-loop-less : tie.Need-loop-less Inv-loop μ-loop
-loop-less c = search needs
-
 loop-again : tie.Need-loop-again Inv-loop μ-loop
 unfolding eachPage
 loop-again c = (search needs, c .before .loop .inv .1, search needs, rw (add-one, c .before .loop .inv .3))
 
 returns : tie.Need-returns Inv-loop μ-loop
 unfolding unmapPages
-returns c = (let e : c .before .loop .i ≡ c .before .before .args .size / 1024 = omega arith in rw e at (c .before .loop .inv .3), c .before .loop .inv .2)
+returns c =
+    let c1 = c .before in let c2 = c1 .before in
+    (let e : c1 .loop .i ≡ c2 .args .size / 1024 = omega arith in rw e at (c1 .loop .inv .3), c1 .loop .inv .2)
 
 pub unmap-pages-spec : {M : Type 1} → statement M
 unmap-pages-spec =
@@ -50,10 +38,10 @@ unmap-pages-spec =
     Inv-loop
     μ-loop
     loop-holds
-    add-out
-    mul-out
-    array-set-from-out
-    add-i
-    loop-less
+    (λ c. search needs)  -- add-out
+    (λ c. search needs)  -- mul-out
+    (λ c. search needs)  -- array-set-from-out
+    (λ c. search needs)  -- add-i
+    (λ c. search needs)  -- loop-less
     loop-again
     returns)

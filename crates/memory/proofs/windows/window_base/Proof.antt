@@ -9,21 +9,19 @@ use borrow.Author.Needs.{needs}
 use Rattle.memory.proofs.windows.window_base.Statement.{statement}
 use Rattle.memory.proofs.windows.window_base.Tie as tie
 
-base : (c : tie.After-bank-index) → c .bank-index .result * c .before .before .args .size ≡ windowBase (c .before .before .args .len) (c .before .before .args .size) (c .before .before .args .bank)
+base : (c : tie.After-bank-index) → c .bank-index .result * c .before .before .args .size ≡ windowBase
+    (c .before .before .args .len) (c .before .before .args .size) (c .before .before .args .bank)
 unfolding windowBase
 base c = rw (c .bank-index .ensures, toZ-ofZ (c .before .before .fits .bank), c .before .banks .ensures .0)
 
-banks-requires : tie.Need-banks-requires
-banks-requires c κs = search needs
-
-bank-index-requires : tie.Need-bank-index-requires
-bank-index-requires c κs = search needs
-
 mul-result : tie.Need-mul-result
-mul-result c = record { fits = rw (base c) (omega (arith, base-le (c .before .before .args .len) (c .before .before .args .size) (c .before .before .args .bank))) }
+mul-result c =
+    let c2 = c .before .before in
+    record { fits = rw (base c) (omega (arith, base-le (c2 .args .len) (c2 .args .size) (c2 .args .bank))) }
 
 returns : tie.Need-returns
-returns c = (base c, rw (base c) (base-le (c .before .before .args .len) (c .before .before .args .size) (c .before .before .args .bank)))
+returns c =
+    (base c, rw (base c) (base-le (c .before .before .args .len) (c .before .before .args .size) (c .before .before .args .bank)))
 
 pub window-base-spec : {M : Type 1} → statement M
-window-base-spec = tie.close (tie.spec banks-requires bank-index-requires mul-result returns)
+window-base-spec = tie.close (tie.spec (λ c κs. search needs) (λ c κs. search needs) mul-result returns)

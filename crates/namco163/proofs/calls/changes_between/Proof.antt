@@ -4,15 +4,9 @@ use Rattle.namco163.specs.Calls.{changes}
 use Rattle.namco163.proofs.calls.changes_between.Statement.{statement}
 use Rattle.namco163.proofs.calls.changes_between.Tie as tie
 
-prg-changes-requires : tie.Need-prg-changes-requires
-prg-changes-requires c κs = search needs
-
-chr-changes-requires : tie.Need-chr-changes-requires
-chr-changes-requires c κs = search needs
-
 returns : tie.Need-returns
 unfolding changes
 returns c = rw (c .chr-changes .ensures, c .before .prg-changes .ensures)
 
 pub changes-between-spec : {M : Type 1} → statement M
-changes-between-spec = tie.close (tie.spec prg-changes-requires chr-changes-requires returns)
+changes-between-spec = tie.close (tie.spec (λ c κs. search needs) (λ c κs. search needs) returns)

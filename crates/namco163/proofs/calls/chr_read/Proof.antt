@@ -7,9 +7,6 @@ use Rattle.namco163.specs.Calls.{chrRead}
 use Rattle.namco163.proofs.calls.chr_read.Statement.{statement}
 use Rattle.namco163.proofs.calls.chr_read.Tie as tie
 
-arena-refusal-requires : tie.Need-arena-refusal-requires
-arena-refusal-requires c κs = search needs
-
 returns : tie.Need-returns
 unfolding chrRead
 returns c = rw (← c .before .arena-refusal .ensures, ne-eqb _ _ (c .if1 .taken))
@@ -22,4 +19,4 @@ unfolding chrRead
 returns-2 c = rw (sym (c .before .before .before .arena-refusal .ensures) ∙ c .before .before .if1 .left, c .chr-peek .ensures)
 
 pub chr-read-spec : {M : Type 1} → statement M
-chr-read-spec = tie.close (tie.spec arena-refusal-requires returns chr-peek-requires returns-2)
+chr-read-spec = tie.close (tie.spec (λ c κs. search needs) returns chr-peek-requires returns-2)

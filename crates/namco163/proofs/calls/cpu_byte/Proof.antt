@@ -3,18 +3,6 @@ use borrow.Author.Needs.{needs}
 use Rattle.namco163.proofs.calls.cpu_byte.Statement.{statement}
 use Rattle.namco163.proofs.calls.cpu_byte.Tie as tie
 
-prg-peek-requires : tie.Need-prg-peek-requires
-prg-peek-requires c κs = search needs
-
-enum-known-served : tie.Need-enum-known-served
-enum-known-served c = search needs
-
-enum-told : tie.Need-enum-told
-enum-told c = search needs
-
-prg-peek-requires-2 : tie.Need-prg-peek-requires-2
-prg-peek-requires-2 c κs = search needs
-
 returns : tie.Need-returns
 returns c = rw (← c .before .before .before .before .prg-peek .ensures, c .before .served .given .1)
 
@@ -24,4 +12,10 @@ returns-2 c = rw (← c .before .before .before .before .prg-peek .ensures, c .b
 pub cpu-byte-spec : {M : Type 1} → statement M
 cpu-byte-spec =
     tie.close
-    (tie.spec prg-peek-requires enum-known-served enum-told prg-peek-requires-2 returns returns-2)
+    (tie.spec
+    (λ c κs. search needs)  -- prg-peek-requires
+    (λ c. search needs)  -- enum-known-served
+    (λ c. search needs)  -- enum-told
+    (λ c κs. search needs)  -- prg-peek-requires-2
+    returns
+    returns-2)

@@ -7,9 +7,6 @@ use Rattle.namco163.specs.Calls.{regionRead}
 use Rattle.namco163.proofs.calls.region_peek.Statement.{statement}
 use Rattle.namco163.proofs.calls.region_peek.Tie as tie
 
-arena-refusal-requires : tie.Need-arena-refusal-requires
-arena-refusal-requires c κs = search needs
-
 returns : tie.Need-returns
 unfolding regionRead
 returns c = rw (← c .before .arena-refusal .ensures, ne-eqb _ _ (c .if1 .taken))
@@ -22,5 +19,4 @@ unfolding regionRead
 returns-2 c = rw (sym (c .before .before .before .arena-refusal .ensures) ∙ c .before .before .if1 .left, c .region-peek .ensures)
 
 pub region-peek-spec : {M : Type 1} → statement M
-region-peek-spec =
-    tie.close (tie.spec arena-refusal-requires returns region-peek-requires returns-2)
+region-peek-spec = tie.close (tie.spec (λ c κs. search needs) returns region-peek-requires returns-2)

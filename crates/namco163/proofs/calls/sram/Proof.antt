@@ -7,19 +7,17 @@ use Rattle.namco163.specs.Calls.{sramAnswer}
 use Rattle.namco163.proofs.calls.sram.Statement.{statement}
 use Rattle.namco163.proofs.calls.sram.Tie as tie
 
-state-refusal-requires : tie.Need-state-refusal-requires
-state-refusal-requires c κs = search needs
-
 returns : tie.Need-returns
 unfolding sramAnswer
 returns c = rw (← c .before .state-refusal .ensures, ne-eqb _ _ (c .if1 .taken))
 
 sram-requires : tie.Need-sram-requires
-sram-requires c κs = memory-good _ (state-good _ (sym (c .before .before .state-refusal .ensures) ∙ c .before .if1 .left)) .ranged .sized
+sram-requires c κs =
+    memory-good _ (state-good _ (sym (c .before .before .state-refusal .ensures) ∙ c .before .if1 .left)) .ranged .sized
 
 returns-2 : tie.Need-returns-2
 unfolding sramAnswer
 returns-2 c = rw (sym (c .before .before .before .state-refusal .ensures) ∙ c .before .before .if1 .left, c .sram .ensures)
 
 pub sram-spec : {M : Type 1} → statement M
-sram-spec = tie.close (tie.spec state-refusal-requires returns sram-requires returns-2)
+sram-spec = tie.close (tie.spec (λ c κs. search needs) returns sram-requires returns-2)

@@ -6,21 +6,17 @@ use Rattle.memory.proofs.Laws.Layout.{layout-good}
 use Rattle.player.proofs.calls.arena_len.Statement.{statement}
 use Rattle.player.proofs.calls.arena_len.Tie as tie
 
-within-limits-requires : tie.Need-within-limits-requires
-within-limits-requires c κs = search needs
-
-new-requires : tie.Need-new-requires
-new-requires c κs = search needs
-
 arena-len-requires : tie.Need-arena-len-requires
-arena-len-requires c κs = rw (c .new .ensures) (layout-good (c .before .before .before .args .sizes) (sym (c .before .before .within-limits .ensures) ∙ c .before .if1 .taken))
-
-returns : tie.Need-returns
-returns c = search needs
-
-returns-2 : tie.Need-returns-2
-returns-2 c = search needs
+arena-len-requires c κs =
+    let c1 = c .before in let c2 = c1 .before in let c3 = c2 .before in
+    rw (c .new .ensures) (layout-good (c3 .args .sizes) (sym (c2 .within-limits .ensures) ∙ c1 .if1 .taken))
 
 pub arena-len-spec : {M : Type 1} → statement M
 arena-len-spec =
-    tie.close (tie.spec within-limits-requires new-requires arena-len-requires returns returns-2)
+    tie.close
+    (tie.spec
+    (λ c κs. search needs)  -- within-limits-requires
+    (λ c κs. search needs)  -- new-requires
+    arena-len-requires
+    (λ c. search needs)  -- returns
+    (λ c. search needs))  -- returns-2

@@ -8,39 +8,20 @@ use native.Mathlib.Omega.{arith}
 use Rattle.player.proofs.calls.run_within.Statement.{statement}
 use Rattle.player.proofs.calls.run_within.Tie as tie
 
-run-requires : tie.Need-run-requires
-run-requires c κs = search needs
-
-same-length : tie.Need-same-length
-same-length c = search needs
-
-returns : tie.Need-returns
-returns c = search needs
-
-slice-relend-prefix-run : tie.Need-slice-relend-prefix-run
-slice-relend-prefix-run c = search needs
-
 slice-aggregate-run : tie.Need-slice-aggregate-run
-slice-aggregate-run c = sym (length-take-le (c .before .before .before .args .room) (now (c .before .before .before .args .samples)) (omega arith))
-
-run-requires-2 : tie.Need-run-requires-2
-run-requires-2 c κs = search needs
-
-same-length-2 : tie.Need-same-length-2
-same-length-2 c = search needs
-
-returns-2 : tie.Need-returns-2
-returns-2 c = search needs
+slice-aggregate-run c =
+    let c3 = c .before .before .before in
+    sym (length-take-le (c3 .args .room) (now (c3 .args .samples)) (omega arith))
 
 pub run-within-spec : {M : Type 1} → statement M
 run-within-spec =
     tie.close
     (tie.spec
-    run-requires
-    same-length
-    returns
-    slice-relend-prefix-run
+    (λ c κs. search needs)  -- run-requires
+    (λ c. search needs)  -- same-length
+    (λ c. search needs)  -- returns
+    (λ c. search needs)  -- slice-relend-prefix-run
     slice-aggregate-run
-    run-requires-2
-    same-length-2
-    returns-2)
+    (λ c κs. search needs)  -- run-requires-2
+    (λ c. search needs)  -- same-length-2
+    (λ c. search needs))  -- returns-2

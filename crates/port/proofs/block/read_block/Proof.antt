@@ -18,9 +18,6 @@ abbrev μ-loop : tie.MeasureT-loop
 loop-holds : tie.Need-loop-holds Inv-loop μ-loop
 loop-holds c = midway-0 _ _ (c .before .args .out .now) refl
 
-read-of-requires : tie.Need-read-of-requires Inv-loop μ-loop
-read-of-requires c κs = search needs
-
 slice-write-out : tie.Need-slice-write-out Inv-loop μ-loop
 slice-write-out c = omega arith
 
@@ -51,7 +48,7 @@ read-block-spec =
     Inv-loop
     μ-loop
     loop-holds
-    read-of-requires
+    (λ c κs. search needs)  -- read-of-requires
     slice-write-out
     add-i
     loop-less

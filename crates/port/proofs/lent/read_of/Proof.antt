@@ -74,26 +74,32 @@ module _ {M : Type 1} (𝓤 : URA M) (H : Heap 𝓤) (A : Atoms 𝓤) (W : Given
   lies-in : IsPort p → ent 𝓤 (sem 𝓤 H A (fat fullShare T′.mir b 0 (port-val p))) (sem 𝓤 H A (mem T.the-row .lies p b 0))
   unfolding partOf
   lies-in is =
-      qed W (‵ (fat fullShare T′.mir b 0 (port-val p)) ∷ []) ∵ use1 W (‵ (cellAt fullShare (T.the-row .mir) (port-val p ∷ []) b 0)) (W .laws .at-raw fullShare T′.mir b 0 (port-val p)) $
+      qed W (‵ (fat fullShare T′.mir b 0 (port-val p)) ∷ []) ∵ use1 W (‵ (cellAt fullShare (T.the-row .mir) (port-val p ∷ []) b 0))
+      (W .laws .at-raw fullShare T′.mir b 0 (port-val p)) $
       owned ! T.the-row (Is T.the-row) ((LL.makes T.the-type T′.the-plain) 𝓤 H A) p _ is $ move ! (1 ∷ 0 ∷ []) $ fjoin ! $
       fpack ! (List Val) (λ us. fsep (cellAt fullShare (T.the-row .mir) us b 0) (T.the-row .own p us)) (port-val p ∷ []) $ done !
 
-  lies-out : ent 𝓤 (sem 𝓤 H A (mem T.the-row .lies p b 0)) (sep 𝓤 (sem 𝓤 H A (fat fullShare T′.mir b 0 (port-val p))) (sem 𝓤 H A (T.the-row .own p (port-val p ∷ []))))
+  lies-out : ent 𝓤 (sem 𝓤 H A (mem T.the-row .lies p b 0))
+      (sep 𝓤 (sem 𝓤 H A (fat fullShare T′.mir b 0 (port-val p))) (sem 𝓤 H A (T.the-row .own p (port-val p ∷ []))))
   unfolding partOf
   lies-out =
       qed W (‵ (mem T.the-row .lies p b 0) ∷ []) ∵ fpick ! (λ vs. fsplit ! $
-      spelt ! T.the-row (Is T.the-row) (shows 𝓤 H A T.the-row) (LL.vals T.the-type T′.the-laws) (LL.tells T.the-type T′.the-laws) fullShare p vs b 0 $
+      spelt ! T.the-row (Is T.the-row) (shows 𝓤 H A T.the-row) (LL.vals T.the-type T′.the-laws)
+      (LL.tells T.the-type T′.the-laws) fullShare p vs b 0 $
       use1 W (‵ (fat fullShare T′.mir b 0 (port-val p))) (W .laws .raw-at fullShare T′.mir b 0 (port-val p)) $ done !)
 
 module _ {M : Type 1} (𝓤 : URA M) (H : Heap 𝓤) (A : Atoms 𝓤) (W : Given 𝓤 H A) (at-mem : Memory → SProp 𝓤) (run : Routine → Fun 𝓤) (h : Port) (was : IsPort h) where
   abbrev Post : Val → SProp 𝓤
-  Post = walkOf 𝓤 H A read-of.ended stayed (read-of.clauses 𝓤 H A at-mem run) .post ((tt, tt, tt, (h, tt), (port-val h ∷ [], tt)), tt)
+  Post = walkOf 𝓤 H A read-of.ended stayed (read-of.clauses 𝓤 H A at-mem run) .post
+      ((tt, tt, tt, (h, tt), (port-val h ∷ [], tt)), tt)
 
   exits : (r : PortRead) (v : Val) → r ≡ stepOf h → ent 𝓤 (sem 𝓤 H A (S.the-row .own r (v ∷ []))) (Post v)
   exits r v e =
       qed W (‵ (S.the-row .own r (v ∷ [])) ∷ []) ∵
-      suffices ! _ (ends-at 𝓤 H A read-of.ended stayed (read-of.clauses 𝓤 H A at-mem run) W ((tt, tt, tt, (h, tt), (port-val h ∷ [], tt)), tt) v r (tt, tt) (tt, tt)) $ says ! e $
-      owned ! T.the-row (Is T.the-row) ((LL.makes T.the-type T′.the-plain) 𝓤 H A) h _ was $ nothing ! $ move ! (1 ∷ 0 ∷ []) $ fjoin ! $ nothing ! $ done !
+      suffices ! _ (ends-at 𝓤 H A read-of.ended stayed (read-of.clauses 𝓤 H A at-mem run) W
+      ((tt, tt, tt, (h, tt), (port-val h ∷ [], tt)), tt) v r (tt, tt) (tt, tt)) $ says ! e $
+      owned ! T.the-row (Is T.the-row) ((LL.makes T.the-type T′.the-plain) 𝓤 H A) h _ was $ nothing ! $ move !
+      (1 ∷ 0 ∷ []) $ fjoin ! $ nothing ! $ done !
 
   -- the local b as a reference, under the name γ, and what `read`'s triple binds outside: the local lent for the lifetime ν
   abbrev x : ℕ → GName → RefT Port
@@ -102,54 +108,86 @@ module _ {M : Type 1} (𝓤 : URA M) (H : Heap 𝓤) (A : Atoms 𝓤) (W : Given
   abbrev to-read : ℕ → ℕ → GName → Read 𝓤 H A at-mem run .Ghost
   to-read b ν γ = (((ν ∷ [], tt), (fullShare, tt), tt, (x b γ, tt), (vptr b 0 ∷ [], tt)), tt)
 
-  goes-read : (b ν : ℕ) (γ : GName) → ent 𝓤 (sep 𝓤 (A .lft (ν ∷ []) fullShare) (sem 𝓤 H A (MutRef (named 0) (ν ∷ []) T.the-row .own (x b γ) (vptr b 0 ∷ [])))) (Read 𝓤 H A at-mem run .pre (to-read b ν γ))
+  goes-read : (b ν : ℕ) (γ : GName) → ent 𝓤
+      (sep 𝓤 (A .lft (ν ∷ []) fullShare) (sem 𝓤 H A (MutRef (named 0) (ν ∷ []) T.the-row .own (x b γ) (vptr b 0 ∷ []))))
+      (Read 𝓤 H A at-mem run .pre (to-read b ν γ))
   goes-read b ν γ =
       qed W (‵ (flft (ν ∷ []) fullShare) ∷ ‵ (MutRef (named 0) (ν ∷ []) T.the-row .own (x b γ) (vptr b 0 ∷ [])) ∷ []) ∵
       nothing ! $ move ! (2 ∷ 0 ∷ []) $ join ! $ nothing ! $ move ! (2 ∷ 0 ∷ []) $ join ! $ join ! $ frame ! $ done !
 
-  module _ (C : Calls 𝓤 H) (Λ : Loops 𝓤 H) (fm : FmC 𝓤 H (W .laws) C) (known : Triple 𝓤 (C #port·read) (Read 𝓤 H A at-mem run)) where
-    walk : ent 𝓤 (onEntry 𝓤 H A read-of.signature tt tt (h, tt) (port-val h ∷ [], tt)) (WpFn 𝓤 H C Λ code.function (port-val h ∷ []) Post)
+  module _ (C : Calls 𝓤 H) (Λ : Loops 𝓤 H) (fm : FmC 𝓤 H (W .laws) C)
+      (known : Triple 𝓤 (C #port·read) (Read 𝓤 H A at-mem run)) where
+    walk : ent 𝓤 (onEntry 𝓤 H A read-of.signature tt tt (h, tt) (port-val h ∷ [], tt))
+        (WpFn 𝓤 H C Λ code.function (port-val h ∷ []) Post)
     walk =
-        qed W (‵ ftrue ∷ ‵ (owns (T.the-row ∷ []) (h, tt) (port-val h ∷ [], tt)) ∷ []) ∵ enter ! C Λ code.function (port-val h ∷ []) _ $
-        alloc1 ! (λ l₀. alloc1 ! (λ l₁. alloc1 ! (λ l₂. alloc1 ! (λ l₃. alloc1 ! (λ l₄. alloc1 ! (λ l₅. alloc0 ! $ params1 ! $ pass1 ! (init ! 8 refl (LL.lawful T.the-type T′.the-laws 𝓤 H A W .typed h _ was .0)) $ pass0 ! $
+        qed W (‵ ftrue ∷ ‵ (owns (T.the-row ∷ []) (h, tt) (port-val h ∷ [], tt)) ∷ []) ∵ enter ! C Λ code.function
+        (port-val h ∷ []) _ $
+        alloc1 ! (λ l₀. alloc1 ! (λ l₁. alloc1 !
+        (λ l₂. alloc1 ! (λ l₃. alloc1 !
+        (λ l₄. alloc1 ! (λ l₅. alloc0 ! $ params1 ! $ pass1 !
+        (init ! 8 refl (LL.lawful T.the-type T′.the-laws 𝓤 H A W .typed h _ was .0)) $ pass0 ! $
         -- [_5; …; _4; …; _3; …; _2; …; _1; …; room for _0; …; true; what p owns]
-        assigns ! (of-opd ! (load ! (from ! (stop !)) (look ! 8 refl))) (from ! (stop !)) (init ! 6 refl (LL.lawful T.the-type T′.the-laws 𝓤 H A W .typed h _ was .0)) $
+        assigns ! (of-opd ! (load ! (from ! (stop !)) (look ! 8 refl))) (from ! (stop !))
+        (init ! 6 refl (LL.lawful T.the-type T′.the-laws 𝓤 H A W .typed h _ was .0)) $
         assigns ! (addr ! (from ! (stop !))) (from ! (stop !)) (init ! 2 refl (tt, tt)) $
         -- the local is lent for a lifetime ν of the call
-        move ! (6 ∷ []) $ use1 W (‵ (mem T.the-row .lies h l₂ 0)) (lies-in 𝓤 H A W l₂ h was) $ lft-new ! tt (λ ν. move ! (1 ∷ 0 ∷ []) $
-        use1 W (later (some (λ (γ : GName). ‵ (MutRef (named 0) (ν ∷ []) T.the-row .own (x l₂ γ) (vptr l₂ 0 ∷ [])) ⊛ ‵ (flent (ν ∷ []) (Body (mem T.the-row) l₂ 0 γ))))) (lends-ref 𝓤 H A W T.the-row (named 0) (ν ∷ []) h l₂ 0) $ await ! tt $ pick ! (λ γ. split ! $
+        move ! (6 ∷ []) $ use1 W (‵ (mem T.the-row .lies h l₂ 0)) (lies-in 𝓤 H A W l₂ h was) $ lft-new ! tt
+        (λ ν. move ! (1 ∷ 0 ∷ []) $
+        use1 W (later (some (λ (γ : GName). ‵ (MutRef (named 0) (ν ∷ []) T.the-row .own (x l₂ γ) (vptr l₂ 0 ∷ [])) ⊛ ‵
+        (flent (ν ∷ []) (Body (mem T.the-row) l₂ 0 γ)))))
+        (lends-ref 𝓤 H A W T.the-row (named 0) (ν ∷ []) h l₂ 0) $ await ! tt $ pick ! (λ γ. split ! $
         move ! (2 ∷ 0 ∷ []) $ use2 W (raw (Read 𝓤 H A at-mem run .pre (to-read l₂ ν γ))) (goes-read l₂ ν γ) $
         -- [`read`'s left side; the lender's part; _5; …; _4; …; _3; …; _2's end; _1; …; room for _0; …]
-        calls-at ! fm (Read 𝓤 H A at-mem run) known (to-read l₂ ν γ) (and-then ! (load ! (from ! (stop !)) (look ! 4 refl)) (no-more !)) (λ v.
-        use1 W (later (some (λ (r : ℕ). ((‵ (flft (ν ∷ []) fullShare) ⊛ ‵ ftrue) ⊛ ‵ (u8 .own r (v ∷ []))) ⊛ raw (ensured 𝓤 H A read.ended (read.clauses 𝓤 H A at-mem run) (ν ∷ [], tt) (x l₂ γ, tt) tt r)))) (id⊢ 𝓤 _) $ await ! tt $ pick ! (λ r.
-        split ! $ move ! (1 ∷ []) $ use1 W (some (λ (zs : Port × Unit {0}). ‵ (lasts read.ended (ν ∷ [], tt) (x l₂ γ, tt) zs) ⊛ raw (fact 𝓤 ((r ≡ byteOf h) × (zs .0 ≡ afterRead h))))) (id⊢ 𝓤 _) $ pick ! (λ zs.
+        calls-at ! fm (Read 𝓤 H A at-mem run) known (to-read l₂ ν γ)
+        (and-then ! (load ! (from ! (stop !)) (look ! 4 refl)) (no-more !)) (λ v.
+        use1 W (later (some (λ (r : ℕ). ((‵ (flft (ν ∷ []) fullShare) ⊛ ‵ ftrue) ⊛ ‵ (u8 .own r (v ∷ []))) ⊛ raw
+        (ensured 𝓤 H A read.ended (read.clauses 𝓤 H A at-mem run) (ν ∷ [], tt) (x l₂ γ, tt) tt r))))
+        (id⊢ 𝓤 _) $ await ! tt $ pick ! (λ r.
+        split ! $ move ! (1 ∷ []) $ use1 W
+        (some (λ (zs : Port × Unit {0}). ‵ (lasts read.ended (ν ∷ [], tt) (x l₂ γ, tt) zs) ⊛ raw
+        (fact 𝓤 ((r ≡ byteOf h) × (zs .0 ≡ afterRead h))))) (id⊢ 𝓤 _) $ pick ! (λ zs.
         split ! $ move ! (1 ∷ []) $ heard ! ((r ≡ byteOf h) × (zs .0 ≡ afterRead h)) (λ e. fsplit ! $
         move ! (2 ∷ []) $ split ! $ move ! (1 ∷ []) $ peeks ! u8 (Is u8) (shows 𝓤 H A u8) r (v ∷ []) (λ is.
         -- [what the byte owns; the token; the last port; true; the lender's part; _5; …; _4; …; room for _3; …; _2's end; _1; …; room for _0; …]
-        land ! (from ! (stop !)) (init ! 9 refl (uint-lawful 𝓤 H A W w8 .typed r _ is .0)) $ rewrite ! 9 (λ (u : Val). ‵ (fat fullShare (tyInt w8) l₃ 0 u)) (ap only (is .0)) refl $
+        land ! (from ! (stop !)) (init ! 9 refl (uint-lawful 𝓤 H A W w8 .typed r _ is .0)) $ rewrite ! 9
+        (λ (u : Val). ‵ (fat fullShare (tyInt w8) l₃ 0 u)) (ap only (is .0)) refl $
         -- the lifetime is ended, and the local comes back at that port
-        move ! (1 ∷ []) $ split ! $ lft-end ! tt $ move ! (0 ∷ 5 ∷ 3 ∷ []) $ use3 W (later (‵ (mem T.the-row .lies (zs .0) l₂ 0))) (ref-back 𝓤 H A W T.the-row (ν ∷ []) γ (zs .0) l₂ 0) $ await ! tt $
-        use1 W (‵ (fat fullShare T′.mir l₂ 0 (port-val (zs .0))) ⊛ ‵ (T.the-row .own (zs .0) (port-val (zs .0) ∷ []))) (lies-out 𝓤 H A W l₂ (zs .0)) $ split ! $
-        move ! (1 ∷ []) $ peeks ! T.the-row (Is T.the-row) (shows 𝓤 H A T.the-row) (zs .0) (port-val (zs .0) ∷ []) (λ came. move ! (1 ∷ 0 ∷ []) $
+        move ! (1 ∷ []) $ split ! $ lft-end ! tt $ move ! (0 ∷ 5 ∷ 3 ∷ []) $ use3 W (later (‵ (mem T.the-row .lies (zs .0) l₂ 0)))
+        (ref-back 𝓤 H A W T.the-row (ν ∷ []) γ (zs .0) l₂ 0) $ await ! tt $
+        use1 W (‵ (fat fullShare T′.mir l₂ 0 (port-val (zs .0))) ⊛ ‵ (T.the-row .own (zs .0) (port-val (zs .0) ∷ [])))
+        (lies-out 𝓤 H A W l₂ (zs .0)) $ split ! $
+        move ! (1 ∷ []) $ peeks ! T.the-row (Is T.the-row) (shows 𝓤 H A T.the-row) (zs .0) (port-val (zs .0) ∷ [])
+        (λ came. move ! (1 ∷ 0 ∷ []) $
         -- [_2; what the port owns; true; what the byte owns; true; room for _5; …; _4; …; _3; …; _2's end; _1; …; room for _0; …]
-        assigns ! (of-opd ! (load ! (from ! (stop !)) (look ! 0 refl))) (from ! (stop !)) (init ! 5 refl (LL.lawful T.the-type T′.the-laws 𝓤 H A W .typed (zs .0) _ came .0)) $
-        assigns ! (agg ! (and-then ! (load ! (from ! (stop !)) (look ! 9 refl)) (and-then ! (load ! (from ! (stop !)) (look ! 5 refl)) (no-more !)))) (from ! (stop !))
-        (init ! 14 refl (LL.lawful S.the-type S′.the-laws 𝓤 H A W .typed (record { byte = r; port = zs .0 }) _ (LL.owes S.the-type S′.the-laws (record { byte = r; port = zs .0 }) ((refl, is .1), (came, tt))) .0)) $
+        assigns ! (of-opd ! (load ! (from ! (stop !)) (look ! 0 refl))) (from ! (stop !))
+        (init ! 5 refl (LL.lawful T.the-type T′.the-laws 𝓤 H A W .typed (zs .0) _ came .0)) $
+        assigns ! (agg ! (and-then ! (load ! (from ! (stop !)) (look ! 9 refl))
+        (and-then ! (load ! (from ! (stop !)) (look ! 5 refl)) (no-more !)))) (from ! (stop !))
+        (init ! 14 refl (LL.lawful S.the-type S′.the-laws 𝓤 H A W .typed (record { byte = r; port = zs .0 }) _
+        (LL.owes S.the-type S′.the-laws (record { byte = r; port = zs .0 }) ((refl, is .1), (came, tt))) .0)) $
         returns ! (look ! 14 refl) $ forget ! 0 refl $ forget ! 5 refl $ forget ! 7 refl $ forget ! 9 refl $ forget ! 12 refl $ forget ! 14 refl $
-        move ! (14 ∷ 15 ∷ []) $ free1 ! $ move ! (12 ∷ 13 ∷ []) $ free1 ! $ move ! (0 ∷ 11 ∷ []) $ free1 ! $ move ! (8 ∷ 9 ∷ []) $ free1 ! $ move ! (6 ∷ 7 ∷ []) $ free1 ! $ move ! (4 ∷ 5 ∷ []) $ free1 ! $ free0 ! $
-        owned ! S.the-row (Is S.the-row) ((LL.makes S.the-type S′.the-plain) 𝓤 H A) (record { byte = r; port = zs .0 }) _ (LL.owes S.the-type S′.the-laws (record { byte = r; port = zs .0 }) ((refl, is .1), (came, tt))) $
-        keep ! (0 ∷ []) $ by ! (exits (record { byte = r; port = zs .0 }) _ (λ i. record { byte = e .0 i; port = e .1 i }))))))))))))))))
+        move ! (14 ∷ 15 ∷ []) $ free1 ! $ move ! (12 ∷ 13 ∷ []) $ free1 ! $ move ! (0 ∷ 11 ∷ []) $ free1 ! $ move !
+        (8 ∷ 9 ∷ []) $ free1 ! $ move ! (6 ∷ 7 ∷ []) $ free1 ! $ move ! (4 ∷ 5 ∷ []) $ free1 ! $ free0 ! $
+        owned ! S.the-row (Is S.the-row) ((LL.makes S.the-type S′.the-plain) 𝓤 H A) (record { byte = r; port = zs .0 }) _
+        (LL.owes S.the-type S′.the-laws (record { byte = r; port = zs .0 }) ((refl, is .1), (came, tt))) $
+        keep ! (0 ∷ []) $ by ! (exits (record { byte = r; port = zs .0 }) _
+        (λ i. record { byte = e .0 i; port = e .1 i }))))))))))))))))
 
 module _ {M : Type 1} (𝓤 : URA M) (H : Heap 𝓤) (A : Atoms 𝓤) (W : Given 𝓤 H A) (at-mem : Memory → SProp 𝓤) (run : Routine → Fun 𝓤) where
-  read-of-walks : (C : Calls 𝓤 H) (Λ : Loops 𝓤 H) → FmC 𝓤 H (W .laws) C → Triple 𝓤 (C #port·read) (Read 𝓤 H A at-mem run) → Walks 𝓤 H A read-of.ended stayed (WpFn 𝓤 H C Λ code.function) (read-of.clauses 𝓤 H A at-mem run)
-  read-of-walks C Λ fm known = walked 𝓤 H A read-of.ended stayed (read-of.clauses 𝓤 H A at-mem run) (WpFn 𝓤 H C Λ code.function) (λ κs. (LL.vals T.the-type T′.the-laws, tt)) (λ κs. (LL.tells T.the-type T′.the-laws, tt))
+  read-of-walks : (C : Calls 𝓤 H) (Λ : Loops 𝓤 H) → FmC 𝓤 H (W .laws) C → Triple 𝓤 (C #port·read) (Read 𝓤 H A at-mem run)
+      → Walks 𝓤 H A read-of.ended stayed (WpFn 𝓤 H C Λ code.function) (read-of.clauses 𝓤 H A at-mem run)
+  read-of-walks C Λ fm known = walked 𝓤 H A read-of.ended stayed (read-of.clauses 𝓤 H A at-mem run) (WpFn 𝓤 H C Λ code.function)
+      (λ κs. (LL.vals T.the-type T′.the-laws, tt)) (λ κs. (LL.tells T.the-type T′.the-laws, tt))
       (λ κs qs bounds a _ are. via 𝓤 _ (fst∗ 𝓤 _ (emp 𝓤)) (walk 𝓤 H A W at-mem run (a .0) (are .0) C Λ fm known))
 
-read-of-meets : {M : Type 1} (𝓤 : URA M) (H : Heap 𝓤) (A : Atoms 𝓤) → Given 𝓤 H A → (at-mem : Memory → SProp 𝓤) (run : Routine → Fun 𝓤) (𝓣 : Tables 𝓤 H) → Triple 𝓤 (𝓣 .C #port·read) (Read 𝓤 H A at-mem run)
+read-of-meets : {M : Type 1} (𝓤 : URA M) (H : Heap 𝓤) (A : Atoms 𝓤) → Given 𝓤 H A → (at-mem : Memory → SProp 𝓤)
+    (run : Routine → Fun 𝓤) (𝓣 : Tables 𝓤 H) → Triple 𝓤 (𝓣 .C #port·read) (Read 𝓤 H A at-mem run)
     → Meets 𝓤 H A read-of.signature (WpFn 𝓤 H (𝓣 .C) (𝓣 .Λ) code.function) (read-of.spec 𝓤 H A at-mem run)
 read-of-meets 𝓤 H A W at-mem run 𝓣 known =
-    walk-meets 𝓤 H A read-of.ended stayed W (goes-none 𝓤 H A W 0 (λ _. T.the-row) yes (λ κs x f. refl), tt) (read-of.clauses 𝓤 H A at-mem run)
-    (WpFn 𝓤 H (𝓣 .C) (𝓣 .Λ) code.function) (WpFn-mono 𝓤 H (W .laws) 𝓣 code.function) (read-of-walks 𝓤 H A W at-mem run (𝓣 .C) (𝓣 .Λ) (fmOf 𝓤 H (W .laws) 𝓣) known)
+    walk-meets 𝓤 H A read-of.ended stayed W (goes-none 𝓤 H A W 0 (λ _. T.the-row) yes (λ κs x f. refl), tt)
+    (read-of.clauses 𝓤 H A at-mem run)
+    (WpFn 𝓤 H (𝓣 .C) (𝓣 .Λ) code.function) (WpFn-mono 𝓤 H (W .laws) 𝓣 code.function)
+    (read-of-walks 𝓤 H A W at-mem run (𝓣 .C) (𝓣 .Λ) (fmOf 𝓤 H (W .laws) 𝓣) known)
 
 pub read-of-spec : {M : Type 1} → stated.statement M
 unfolding code.routine tablesOf
@@ -157,4 +195,5 @@ read-of-spec 𝓤 H 𝓜 𝓖 𝓡 =
     entered 𝓤 H (tripleOf 𝓤 H (𝓖 .A) read-of.signature (read-of.spec 𝓤 H (𝓖 .A) (𝓜 .mem) (𝓡 .run)))
     (tables 𝓤 H 𝓜 𝓡 code.env .C) (tables 𝓤 H 𝓜 𝓡 code.env .Λ) #port·read-of code.function (code.unfolded 𝓤 H 𝓜 𝓡)
     (read-of-meets 𝓤 H (𝓖 .A) (givenOf 𝓤 H 𝓜 𝓖) (𝓜 .mem) (𝓡 .run) (tablesOf 𝓤 H 𝓜 (tables 𝓤 H 𝓜 𝓡 code.env))
-    (cited 𝓤 H (Read 𝓤 H (𝓖 .A) (𝓜 .mem) (𝓡 .run)) 𝓜 𝓡 code.env #port·read read-def.routine code.calls-port·lent·read (read-thm.met 𝓤 H 𝓜 𝓖 𝓡)))
+    (cited 𝓤 H (Read 𝓤 H (𝓖 .A) (𝓜 .mem) (𝓡 .run)) 𝓜 𝓡 code.env #port·read read-def.routine code.calls-port·lent·read
+    (read-thm.met 𝓤 H 𝓜 𝓖 𝓡)))

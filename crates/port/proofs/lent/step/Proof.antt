@@ -5,12 +5,6 @@ use Rattle.port.proofs.lent.Laws.{stays}
 use Rattle.port.proofs.lent.step.Statement.{statement}
 use Rattle.port.proofs.lent.step.Tie as tie
 
-element-copy-out-byte : tie.Need-element-copy-out-byte
-element-copy-out-byte c = search needs
-
-add-moved : tie.Need-add-moved
-add-moved c = search needs
-
 returns : tie.Need-returns
 unfolding afterRead
 returns c = simp (c .if1 .taken)
@@ -20,4 +14,4 @@ returns-2 c =
     λ i. record { byte = byteOf (c .before .before .args .t1); port = stays (c .before .before .args .t1) (c .if1 .left) i }
 
 pub step-spec : {M : Type 1} → statement M
-step-spec = tie.close (tie.spec element-copy-out-byte add-moved returns returns-2)
+step-spec = tie.close (tie.spec (λ c. search needs) (λ c. search needs) returns returns-2)

@@ -5,12 +5,6 @@ use Rattle.prg_registers.proofs.Kept.{detect-audio}
 use Rattle.prg_registers.proofs.banks.write_e000.Statement.{statement}
 use Rattle.prg_registers.proofs.banks.write_e000.Tie as tie
 
-detect-e000-requires : tie.Need-detect-e000-requires
-detect-e000-requires c κs = search needs
-
-element-write-next : tie.Need-element-write-next
-element-write-next c = search needs
-
 high-bits-e000-requires : tie.Need-high-bits-e000-requires
 high-bits-e000-requires c κs = rw (c .detect-e000 .ensures, detect-audio) (c .before .pre)
 
@@ -19,5 +13,4 @@ unfolding writeE000
 returns c = rw (c .high-bits-e000 .ensures, c .before .detect-e000 .ensures)
 
 pub write-e000-spec : {M : Type 1} → statement M
-write-e000-spec =
-    tie.close (tie.spec detect-e000-requires element-write-next high-bits-e000-requires returns)
+write-e000-spec = tie.close (tie.spec (λ c κs. search needs) (λ c. search needs) high-bits-e000-requires returns)

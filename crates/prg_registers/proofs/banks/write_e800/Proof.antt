@@ -6,12 +6,6 @@ use Rattle.prg_registers.specs.Banks.{writeE800}
 use Rattle.prg_registers.proofs.banks.write_e800.Statement.{statement}
 use Rattle.prg_registers.proofs.banks.write_e800.Tie as tie
 
-element-write-next : tie.Need-element-write-next
-element-write-next c = search needs
-
-num-requires : tie.Need-num-requires
-num-requires c κs = search needs
-
 returns : tie.Need-returns
 unfolding writeE800
 returns c = rw (ne-eqb _ _ (λ e. c .if1 .taken (c .before .num .ensures .0 ∙ e)))
@@ -21,4 +15,4 @@ unfolding writeE800
 returns-2 c = rw (eq-eqb _ _ (sym (c .before .before .num .ensures .0) ∙ c .before .if1 .left))
 
 pub write-e800-spec : {M : Type 1} → statement M
-write-e800-spec = tie.close (tie.spec element-write-next num-requires returns returns-2)
+write-e800-spec = tie.close (tie.spec (λ c. search needs) (λ c κs. search needs) returns returns-2)

@@ -5,12 +5,9 @@ use Rattle.prg_registers.specs.Banks.{writeF000}
 use Rattle.prg_registers.proofs.banks.write_f000.Statement.{statement}
 use Rattle.prg_registers.proofs.banks.write_f000.Tie as tie
 
-element-write-chip : tie.Need-element-write-chip
-element-write-chip c = search needs
-
 returns : tie.Need-returns
 unfolding writeF000
 returns c = refl
 
 pub write-f000-spec : {M : Type 1} → statement M
-write-f000-spec = tie.close (tie.spec element-write-chip returns)
+write-f000-spec = tie.close (tie.spec (λ c. search needs) returns)

@@ -7,24 +7,27 @@ use Rattle.chip.proofs.Kept.{maybe-audio}
 use Rattle.prg_registers.proofs.banks.write_f800.Statement.{statement}
 use Rattle.prg_registers.proofs.banks.write_f800.Tie as tie
 
-maybe-set-board-requires : tie.Need-maybe-set-board-requires
-maybe-set-board-requires c κs = search needs
-
-num-requires : tie.Need-num-requires
-num-requires c κs = search needs
-
 returns : tie.Need-returns
 unfolding writeF800
 returns c = rw (← c .before .before .maybe-set-board .ensures, ne-eqb _ _ (λ e. c .if1 .taken (c .before .num .ensures .0 ∙ e)))
 
 write-register-requires : tie.Need-write-register-requires
-write-register-requires c κs = rw (c .before .before .before .before .maybe-set-board .ensures, maybe-audio) (c .before .before .before .before .before .pre)
+write-register-requires c κs =
+    let c4 = c .before .before .before .before in let c5 = c4 .before in
+    rw (c4 .maybe-set-board .ensures, maybe-audio) (c5 .pre)
 
 returns-2 : tie.Need-returns-2
 unfolding writeF800
-returns-2 c = rw (← c .before .before .before .before .before .maybe-set-board .ensures, eq-eqb _ _ (sym (c .before .before .before .before .num .ensures .0) ∙ c .before .before .before .if1 .left), c .write-register .ensures)
+returns-2 c =
+    let c3 = c .before .before .before in let c4 = c3 .before in let c5 = c4 .before in
+    rw (← c5 .maybe-set-board .ensures, eq-eqb _ _ (sym (c4 .num .ensures .0) ∙ c3 .if1 .left), c .write-register .ensures)
 
 pub write-f800-spec : {M : Type 1} → statement M
 write-f800-spec =
     tie.close
-    (tie.spec maybe-set-board-requires num-requires returns write-register-requires returns-2)
+    (tie.spec
+    (λ c κs. search needs)  -- maybe-set-board-requires
+    (λ c κs. search needs)  -- num-requires
+    returns
+    write-register-requires
+    returns-2)

@@ -5,12 +5,6 @@ use Rattle.registers.specs.Writes.{remaps}
 use Rattle.registers.proofs.writes.remaps.Statement.{statement}
 use Rattle.registers.proofs.writes.remaps.Tie as tie
 
-num-requires : tie.Need-num-requires
-num-requires c κs = search needs
-
-num-requires-2 : tie.Need-num-requires-2
-num-requires-2 c κs = search needs
-
 returns : tie.Need-returns
 unfolding remaps
 returns c = rw (lt-leb _ _ (c .if1 .taken), c .before .before .num .ensures .0, c .before .num2 .ensures .0)
@@ -21,7 +15,9 @@ returns-2 c = rw (le-leb _ _ (c .before .if1 .left), lt-ltb _ _ (c .if2 .taken))
 
 returns-3 : tie.Need-returns-3
 unfolding remaps
-returns-3 c = rw (le-leb _ _ (c .before .if1 .left), le-ltb _ _ (c .if2 .left), c .before .before .before .num .ensures .0, c .before .before .num2 .ensures .0)
+returns-3 c =
+    let c1 = c .before in let c2 = c1 .before in let c3 = c2 .before in
+    rw (le-leb _ _ (c1 .if1 .left), le-ltb _ _ (c .if2 .left), c3 .num .ensures .0, c2 .num2 .ensures .0)
 
 pub remaps-spec : {M : Type 1} → statement M
-remaps-spec = tie.close (tie.spec num-requires num-requires-2 returns returns-2 returns-3)
+remaps-spec = tie.close (tie.spec (λ c κs. search needs) (λ c κs. search needs) returns returns-2 returns-3)

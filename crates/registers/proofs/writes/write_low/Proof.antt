@@ -10,48 +10,53 @@ returns : tie.Need-returns
 unfolding writeChip
 returns c = rw (lt-ltb _ _ (c .if1 .taken))
 
-write-sound-data-requires : tie.Need-write-sound-data-requires
-write-sound-data-requires c κs = search needs
-
 returns-2 : tie.Need-returns-2
 unfolding writeChip
 returns-2 c = let a = c .before .before .before .args .addr in
     rw (le-ltb a 0x4800 (omega arith), lt-ltb a 0x5000 (omega arith), c .write-sound-data .ensures)
-
-write-counter-low-requires : tie.Need-write-counter-low-requires
-write-counter-low-requires c κs = search needs
 
 returns-3 : tie.Need-returns-3
 unfolding writeChip
 returns-3 c = let a = c .before .before .before .before .args .addr in
     rw (le-ltb a 0x4800 (omega arith), le-ltb a 0x5000 (omega arith), lt-ltb a 0x5800 (omega arith), c .write-counter-low .ensures)
 
-write-counter-high-requires : tie.Need-write-counter-high-requires
-write-counter-high-requires c κs = search needs
-
 returns-4 : tie.Need-returns-4
 unfolding writeChip
-returns-4 c = let a = c .before .before .before .before .before .args .addr in
-    rw (le-ltb a 0x4800 (omega arith), le-ltb a 0x5000 (omega arith), le-ltb a 0x5800 (omega arith), lt-ltb a 0x6000 (omega arith), c .write-counter-high .ensures)
-
-write-work-ram-requires : tie.Need-write-work-ram-requires
-write-work-ram-requires c κs = search needs
+returns-4 c =
+    let c5 = c .before .before .before .before .before in
+    let a = c5 .args .addr in
+    rw (
+      le-ltb a 0x4800 (omega arith),
+      le-ltb a 0x5000 (omega arith),
+      le-ltb a 0x5800 (omega arith),
+      lt-ltb a 0x6000 (omega arith),
+      c .write-counter-high .ensures,
+    )
 
 returns-5 : tie.Need-returns-5
 unfolding writeChip
-returns-5 c = let a = c .before .before .before .before .before .args .addr in
-    rw (le-ltb a 0x4800 (omega arith), le-ltb a 0x5000 (omega arith), le-ltb a 0x5800 (omega arith), le-ltb a 0x6000 (omega arith), lt-ltb a 0x8000 (omega arith), c .write-work-ram .ensures)
+returns-5 c =
+    let c5 = c .before .before .before .before .before in
+    let a = c5 .args .addr in
+    rw (
+      le-ltb a 0x4800 (omega arith),
+      le-ltb a 0x5000 (omega arith),
+      le-ltb a 0x5800 (omega arith),
+      le-ltb a 0x6000 (omega arith),
+      lt-ltb a 0x8000 (omega arith),
+      c .write-work-ram .ensures,
+    )
 
 pub write-low-spec : {M : Type 1} → statement M
 write-low-spec =
     tie.close
     (tie.spec
     returns
-    write-sound-data-requires
+    (λ c κs. search needs)  -- write-sound-data-requires
     returns-2
-    write-counter-low-requires
+    (λ c κs. search needs)  -- write-counter-low-requires
     returns-3
-    write-counter-high-requires
+    (λ c κs. search needs)  -- write-counter-high-requires
     returns-4
-    write-work-ram-requires
+    (λ c κs. search needs)  -- write-work-ram-requires
     returns-5)

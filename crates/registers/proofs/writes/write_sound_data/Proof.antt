@@ -5,9 +5,6 @@ use Rattle.chip.proofs.Kept.{maybe-audio}
 use Rattle.registers.proofs.writes.write_sound_data.Statement.{statement}
 use Rattle.registers.proofs.writes.write_sound_data.Tie as tie
 
-maybe-set-board-requires : tie.Need-maybe-set-board-requires
-maybe-set-board-requires c κs = search needs
-
 write-register-requires : tie.Need-write-register-requires
 write-register-requires c κs = rw (c .before .maybe-set-board .ensures, maybe-audio) (c .before .before .pre)
 
@@ -16,5 +13,4 @@ unfolding writeSoundData
 returns c = rw (c .write-register .ensures, c .before .before .maybe-set-board .ensures)
 
 pub write-sound-data-spec : {M : Type 1} → statement M
-write-sound-data-spec =
-    tie.close (tie.spec maybe-set-board-requires write-register-requires returns)
+write-sound-data-spec = tie.close (tie.spec (λ c κs. search needs) write-register-requires returns)

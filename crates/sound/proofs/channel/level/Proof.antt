@@ -10,12 +10,6 @@ use Rattle.sound.proofs.channel.level.Tie as tie
 small : (c : tie.After-wrapping-sub-u8) → c .wrapping-sub-u8 .result * c .before .args .volume ≤ 3825
 small c = mul-le-mul {n₂ = 255} {m₂ = 15} (omega arith) (omega arith)
 
-wrapping-sub-u8-requires : tie.Need-wrapping-sub-u8-requires
-wrapping-sub-u8-requires c κs = search needs
-
-cast-result : tie.Need-cast-result
-cast-result c = search needs
-
 mul-result : tie.Need-mul-result
 mul-result c = let h = small c in omega arith
 
@@ -23,4 +17,4 @@ returns : tie.Need-returns
 returns c = (ap (λ (x : ℕ). x * c .before .args .volume) (omega arith), small c)
 
 pub level-spec : {M : Type 1} → statement M
-level-spec = tie.close (tie.spec wrapping-sub-u8-requires cast-result mul-result returns)
+level-spec = tie.close (tie.spec (λ c κs. search needs) (λ c. search needs) mul-result returns)

@@ -5,12 +5,6 @@ use Rattle.sound.specs.Channel.{nibbleAt}
 use Rattle.sound.proofs.channel.nibble.Statement.{statement}
 use Rattle.sound.proofs.channel.nibble.Tie as tie
 
-element-copy-out-result : tie.Need-element-copy-out-result
-element-copy-out-result c = search needs
-
-element-copy-out-result-2 : tie.Need-element-copy-out-result-2
-element-copy-out-result-2 c = search needs
-
 returns : tie.Need-returns
 unfolding nibbleAt
 returns c = simp (eq-eqb _ _ (c .before .if1 .taken))
@@ -20,4 +14,4 @@ unfolding nibbleAt
 returns-2 c = simp (ne-eqb _ _ (c .before .if1 .left))
 
 pub nibble-spec : {M : Type 1} → statement M
-nibble-spec = tie.close (tie.spec element-copy-out-result element-copy-out-result-2 returns returns-2)
+nibble-spec = tie.close (tie.spec (λ c. search needs) (λ c. search needs) returns returns-2)

@@ -11,11 +11,8 @@ returns c = (sym (mod-eq-of-lt (c .if1 .taken)), c .if1 .taken)
 returns-2 : tie.Need-returns-2
 returns-2 c = (sym (mod-eq-sub-mod (c .before .if1 .left) ∙ mod-eq-of-lt (c .if2 .taken)), c .if2 .taken)
 
-rem-result : tie.Need-rem-result
-rem-result c = search needs
-
 returns-3 : tie.Need-returns-3
 returns-3 c = (sym (mod-eq-sub-mod (c .before .if1 .left)), mod-lt _ (c .before .before .pre))
 
 pub reduce-spec : {M : Type 1} → statement M
-reduce-spec = tie.close (tie.spec returns returns-2 rem-result returns-3)
+reduce-spec = tie.close (tie.spec returns returns-2 (λ c. search needs) returns-3)

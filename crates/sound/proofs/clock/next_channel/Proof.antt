@@ -6,12 +6,6 @@ use Rattle.sound.specs.Clock.{nextChannel}
 use Rattle.sound.proofs.clock.next_channel.Statement.{statement}
 use Rattle.sound.proofs.clock.next_channel.Tie as tie
 
-add-if1 : tie.Need-add-if1
-add-if1 c = search needs
-
-sub-result : tie.Need-sub-result
-sub-result c = search needs
-
 returns : tie.Need-returns
 unfolding nextChannel
 returns c = (simp (lt-ltb _ _ (c .if1 .taken)), omega arith)
@@ -21,4 +15,4 @@ unfolding nextChannel
 returns-2 c = (simp (le-ltb _ _ (c .if1 .left)), omega arith)
 
 pub next-channel-spec : {M : Type 1} → statement M
-next-channel-spec = tie.close (tie.spec add-if1 sub-result returns returns-2)
+next-channel-spec = tie.close (tie.spec (λ c. search needs) (λ c. search needs) returns returns-2)

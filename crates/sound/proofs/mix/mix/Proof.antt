@@ -4,15 +4,9 @@ use Rattle.sound.specs.Mix.{mixOf}
 use Rattle.sound.proofs.mix.mix.Statement.{statement}
 use Rattle.sound.proofs.mix.mix.Tie as tie
 
-sum-requires : tie.Need-sum-requires
-sum-requires c κs = search needs
-
-mean-requires : tie.Need-mean-requires
-mean-requires c κs = search needs
-
 returns : tie.Need-returns
 unfolding mixOf
 returns c = rw (c .mean .ensures, c .before .sum .ensures)
 
 pub mix-spec : {M : Type 1} → statement M
-mix-spec = tie.close (tie.spec sum-requires mean-requires returns)
+mix-spec = tie.close (tie.spec (λ c κs. search needs) (λ c κs. search needs) returns)

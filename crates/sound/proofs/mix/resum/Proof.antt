@@ -4,9 +4,6 @@ use borrow.Author.Tests.{le-leb, lt-leb}
 use Rattle.sound.proofs.mix.resum.Statement.{statement}
 use Rattle.sound.proofs.mix.resum.Tie as tie
 
-add-if1 : tie.Need-add-if1
-add-if1 c = search needs
-
 returns : tie.Need-returns
 returns c = rw (le-leb _ _ (c .if1 .taken))
 
@@ -14,4 +11,4 @@ returns-2 : tie.Need-returns-2
 returns-2 c = rw (lt-leb _ _ (c .if1 .left))
 
 pub resum-spec : {M : Type 1} → statement M
-resum-spec = tie.close (tie.spec add-if1 returns returns-2)
+resum-spec = tie.close (tie.spec (λ c. search needs) returns returns-2)

@@ -21,9 +21,6 @@ returns-2 : tie.Need-returns-2
 unfolding levelOk outOk
 returns-2 c = rw (lt-leb _ _ (c .if2 .taken), and-false)
 
-whole-part-requires : tie.Need-whole-part-requires
-whole-part-requires c κs = search needs
-
 int-to-float-back : tie.Need-int-to-float-back
 unfolding inFloat
 int-to-float-back c = le→leb (c .before .whole-part .result) 16777216 (omega (arith, c .before .whole-part .ensures .1))
@@ -33,7 +30,9 @@ float-to-bits-result c = whole-number (c .before .whole-part .result) (omega (ar
 
 returns-3 : tie.Need-returns-3
 unfolding levelOk outOk
-returns-3 c = rw (is-number (c .before .before .before .before .args .x) (c .before .before .before .if1 .left), le-leb _ _ (c .before .before .if2 .left), c .before .whole-part .ensures .0)
+returns-3 c =
+    let c1 = c .before in let c2 = c1 .before in let c3 = c2 .before in let c4 = c3 .before in
+    rw (is-number (c4 .args .x) (c3 .if1 .left), le-leb _ _ (c2 .if2 .left), c1 .whole-part .ensures .0)
 
 pub level-ok-spec : {M : Type 1} → statement M
 level-ok-spec =
@@ -42,7 +41,7 @@ level-ok-spec =
     returns
     float-to-bits-bits
     returns-2
-    whole-part-requires
+    (λ c κs. search needs)  -- whole-part-requires
     int-to-float-back
     float-to-bits-result
     returns-3)

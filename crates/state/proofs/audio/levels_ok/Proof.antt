@@ -26,11 +26,11 @@ mul-x c = omega arith
 array-read-x : tie.Need-array-read-x Inv-loop μ-loop
 array-read-x c = omega arith
 
-level-ok-requires : tie.Need-level-ok-requires Inv-loop μ-loop
-level-ok-requires c κs = search needs
-
 returns : tie.Need-returns Inv-loop μ-loop
-returns c = let l = c .before .before .before .loop in sym (every-fails 8 (outputTest (c .before .before .before .before .args .t1)) (l .i) (omega arith) (sym (c .before .level-ok .ensures) ∙ was-false _ (c .if1 .taken)))
+returns c =
+    let c1 = c .before in let c3 = c1 .before .before in let c4 = c3 .before in
+    let l = c3 .loop in
+    sym (every-fails 8 (outputTest (c4 .args .t1)) (l .i) (omega arith) (sym (c1 .level-ok .ensures) ∙ was-false _ (c .if1 .taken)))
 
 add-i : tie.Need-add-i Inv-loop μ-loop
 add-i c = omega arith
@@ -39,7 +39,13 @@ loop-less : tie.Need-loop-less Inv-loop μ-loop
 loop-less c = omega arith
 
 loop-again : tie.Need-loop-again Inv-loop μ-loop
-loop-again c = let l = c .before .before .before .loop in (omega arith, every-more (l .i) (outputTest (c .before .before .before .before .args .t1)) (l .inv .1) (sym (c .before .level-ok .ensures) ∙ was-true _ (c .if1 .left)))
+loop-again c =
+    let c1 = c .before in let c3 = c1 .before .before in let c4 = c3 .before in
+    let l = c3 .loop in (
+      omega arith,
+      every-more (l .i) (outputTest (c4 .args .t1)) (l .inv .1)
+          (sym (c1 .level-ok .ensures) ∙ was-true _ (c .if1 .left)),
+    )
 
 returns-2 : tie.Need-returns-2 Inv-loop μ-loop
 returns-2 c = let e : c .before .loop .i ≡ 8 = omega arith in sym (rw e at (c .before .loop .inv .1))
@@ -53,7 +59,7 @@ levels-ok-spec =
     loop-holds
     mul-x
     array-read-x
-    level-ok-requires
+    (λ c κs. search needs)  -- level-ok-requires
     returns
     add-i
     loop-less

@@ -27,7 +27,9 @@ array-read-x : tie.Need-array-read-x Inv-loop μ-loop
 array-read-x c = omega arith
 
 returns : tie.Need-returns Inv-loop μ-loop
-returns c = let l = c .before .before .loop in sym (every-fails 8 (phaseTest (c .before .before .before .args .t1)) (l .i) (omega arith) (le-ltb _ _ (c .if1 .taken)))
+returns c =
+    let c2 = c .before .before in let c3 = c2 .before in
+    let l = c2 .loop in sym (every-fails 8 (phaseTest (c3 .args .t1)) (l .i) (omega arith) (le-ltb _ _ (c .if1 .taken)))
 
 add-i : tie.Need-add-i Inv-loop μ-loop
 add-i c = omega arith
@@ -36,7 +38,9 @@ loop-less : tie.Need-loop-less Inv-loop μ-loop
 loop-less c = omega arith
 
 loop-again : tie.Need-loop-again Inv-loop μ-loop
-loop-again c = let l = c .before .before .loop in (omega arith, every-more (l .i) (phaseTest (c .before .before .before .args .t1)) (l .inv .1) (lt-ltb _ _ (c .if1 .left)))
+loop-again c =
+    let c2 = c .before .before in let c3 = c2 .before in
+    let l = c2 .loop in (omega arith, every-more (l .i) (phaseTest (c3 .args .t1)) (l .inv .1) (lt-ltb _ _ (c .if1 .left)))
 
 returns-2 : tie.Need-returns-2 Inv-loop μ-loop
 returns-2 c = let e : c .before .loop .i ≡ 8 = omega arith in sym (rw e at (c .before .loop .inv .1))

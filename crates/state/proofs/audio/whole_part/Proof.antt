@@ -12,18 +12,13 @@ returns : tie.Need-returns
 unfolding wholePart
 returns c = (rw (lt-ltb _ _ (c .if1 .taken)), omega arith)
 
-sub-shift : tie.Need-sub-shift
-sub-shift c = search needs
-
-add-result : tie.Need-add-result
-add-result c = search needs
-
-shr-result : tie.Need-shr-result
-shr-result c = search needs
-
 returns-2 : tie.Need-returns-2
 unfolding wholePart
-returns-2 c = (rw (le-ltb _ _ (c .if1 .left)), lt-of-le-of-lt (div-le-self (8388608 + c .before .args .bits % 8388608) (2 ^ (150 - c .before .args .bits / 8388608))) (omega arith))
+returns-2 c = (
+  rw (le-ltb _ _ (c .if1 .left)),
+  lt-of-le-of-lt (div-le-self (8388608 + c .before .args .bits % 8388608) (2 ^ (150 - c .before .args .bits / 8388608)))
+      (omega arith),
+)
 
 pub whole-part-spec : {M : Type 1} → statement M
-whole-part-spec = tie.close (tie.spec returns sub-shift add-result shr-result returns-2)
+whole-part-spec = tie.close (tie.spec returns (λ c. search needs) (λ c. search needs) (λ c. search needs) returns-2)

@@ -11,16 +11,14 @@ use Rattle.text.proofs.adler.adler32.Statement.{statement}
 use Rattle.text.proofs.adler.adler32.Tie as tie
 
 abbrev Inv-loop : tie.InvT-loop
-Inv-loop bytes low₀ high₀ i₀ low high i = (i ≤ length bytes) × (low < 65521) × (high < 65521) × (sumsFrom low high (drop i bytes) ≡ adler bytes)
+Inv-loop bytes low₀ high₀ i₀ low high i =
+    (i ≤ length bytes) × (low < 65521) × (high < 65521) × (sumsFrom low high (drop i bytes) ≡ adler bytes)
 
 abbrev μ-loop : tie.MeasureT-loop
 μ-loop bytes low₀ high₀ i₀ low high i = length bytes - i
 
 loop-holds : tie.Need-loop-holds Inv-loop μ-loop
 loop-holds c = (omega arith, omega arith, omega arith, refl)
-
-shared-slice-read-reduced : tie.Need-shared-slice-read-reduced Inv-loop μ-loop
-shared-slice-read-reduced c = search needs
 
 cast-reduced : tie.Need-cast-reduced Inv-loop μ-loop
 cast-reduced c = omega (arith, c .shared-slice-known2 .given (c .before .before .loop .i))
@@ -31,35 +29,20 @@ add-reduced c = omega (arith, c .shared-slice-known2 .given (c .before .before .
 reduced-requires : tie.Need-reduced-requires Inv-loop μ-loop
 reduced-requires c κs = omega (arith, c .shared-slice-known2 .given (c .before .before .loop .i))
 
-add-reduced-2 : tie.Need-add-reduced-2 Inv-loop μ-loop
-add-reduced-2 c = search needs
-
-reduced-requires-2 : tie.Need-reduced-requires-2 Inv-loop μ-loop
-reduced-requires-2 c κs = search needs
-
-add-i : tie.Need-add-i Inv-loop μ-loop
-add-i c = search needs
-
-loop-less : tie.Need-loop-less Inv-loop μ-loop
-loop-less c = search needs
-
 loop-again : tie.Need-loop-again Inv-loop μ-loop
-loop-again c = (
-  search needs,
-  search needs,
-  search needs,
-  rw (c .reduced2 .ensures .0, c .before .reduced .ensures .0)
-      (sym (sums-next (c .before .before .before .before .loop .low) (c .before .before .before .before .loop .high) (now (c .before .before .before .before .before .before .args .bytes)) (c .before .before .before .before .loop .i) (omega arith)) ∙ c .before .before .before .before .loop .inv .3),
-)
-
-mul-result : tie.Need-mul-result Inv-loop μ-loop
-mul-result c = search needs
-
-add-result : tie.Need-add-result Inv-loop μ-loop
-add-result c = search needs
+loop-again c =
+    let c1 = c .before in let c4 = c1 .before .before .before in let c6 = c4 .before .before in (
+      search needs,
+      search needs,
+      search needs,
+      rw (c .reduced2 .ensures .0, c1 .reduced .ensures .0)
+          (sym (sums-next (c4 .loop .low) (c4 .loop .high) (now (c6 .args .bytes)) (c4 .loop .i) (omega arith)) ∙ c4 .loop .inv .3),
+    )
 
 returns : tie.Need-returns Inv-loop μ-loop
-returns c = sym (sums-end (c .before .loop .low) (c .before .loop .high) (now (c .before .before .before .args .bytes)) (c .before .loop .i) (omega arith)) ∙ c .before .loop .inv .3
+returns c =
+    let c1 = c .before in let c3 = c1 .before .before in
+    sym (sums-end (c1 .loop .low) (c1 .loop .high) (now (c3 .args .bytes)) (c1 .loop .i) (omega arith)) ∙ c1 .loop .inv .3
 
 pub adler32-spec : {M : Type 1} → statement M
 adler32-spec =
@@ -68,15 +51,15 @@ adler32-spec =
     Inv-loop
     μ-loop
     loop-holds
-    shared-slice-read-reduced
+    (λ c. search needs)  -- shared-slice-read-reduced
     cast-reduced
     add-reduced
     reduced-requires
-    add-reduced-2
-    reduced-requires-2
-    add-i
-    loop-less
+    (λ c. search needs)  -- add-reduced-2
+    (λ c κs. search needs)  -- reduced-requires-2
+    (λ c. search needs)  -- add-i
+    (λ c. search needs)  -- loop-less
     loop-again
-    mul-result
-    add-result
+    (λ c. search needs)  -- mul-result
+    (λ c. search needs)  -- add-result
     returns)

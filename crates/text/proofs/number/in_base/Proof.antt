@@ -20,44 +20,55 @@ abbrev μ-loop : tie.MeasureT-loop
 loop-holds : tie.Need-loop-holds Inv-loop μ-loop
 loop-holds c = (omega arith, refl)
 
-shared-slice-read-digit : tie.Need-shared-slice-read-digit Inv-loop μ-loop
-shared-slice-read-digit c = search needs
-
-digit-requires : tie.Need-digit-requires Inv-loop μ-loop
-digit-requires c κs = search needs
-
-cast-d : tie.Need-cast-d Inv-loop μ-loop
-cast-d c = search needs
-
 returns : tie.Need-returns Inv-loop μ-loop
-returns c = sym (sym (c .before .before .before .before .loop .inv .1) ∙ digits-next (c .before .before .before .before .before .before .args .base) (c .before .before .before .before .loop .value) (now (c .before .before .before .before .before .before .args .digits)) (c .before .before .before .before .loop .i) (omega arith) ∙ rw (← c .before .digit .ensures .0, le-leb _ _ (c .if1 .taken)))
-
-sub-if2 : tie.Need-sub-if2 Inv-loop μ-loop
-sub-if2 c = search needs
-
-div-if2 : tie.Need-div-if2 Inv-loop μ-loop
-div-if2 c = search needs
+returns c =
+    let c1 = c .before in let c4 = c1 .before .before .before in let c6 = c4 .before .before in
+    sym (sym (c4 .loop .inv .1) ∙ digits-next (c6 .args .base) (c4 .loop .value) (now (c6 .args .digits)) (c4 .loop .i)
+    (omega arith) ∙ rw (← c1 .digit .ensures .0, le-leb _ _ (c .if1 .taken)))
 
 returns-2 : tie.Need-returns-2 Inv-loop μ-loop
-returns-2 c = sym (sym (c .before .before .before .before .before .loop .inv .1) ∙ digits-next (c .before .before .before .before .before .before .before .args .base) (c .before .before .before .before .before .loop .value) (now (c .before .before .before .before .before .before .before .args .digits)) (c .before .before .before .before .before .loop .i) (omega arith) ∙ rw (← c .before .before .digit .ensures .0, lt-leb _ _ (c .before .if1 .left), le-ltb _ _ (no-room (c .before .before .before .before .before .loop .value) (c .before .before .before .before .before .before .before .args .base) (c .before .before .digit .result) (search needs) (c .if2 .taken))))
+returns-2 c =
+    let c1 = c .before in let c2 = c1 .before in let c5 = c2 .before .before .before in let c7 = c5 .before .before in
+    sym (sym (c5 .loop .inv .1) ∙ digits-next (c7 .args .base) (c5 .loop .value) (now (c7 .args .digits)) (c5 .loop .i)
+    (omega arith) ∙ rw (
+      ← c2 .digit .ensures .0,
+      lt-leb _ _ (c1 .if1 .left),
+      le-ltb _ _ (no-room (c5 .loop .value) (c7 .args .base) (c2 .digit .result) (search needs) (c .if2 .taken)),
+    ))
 
 mul-value : tie.Need-mul-value Inv-loop μ-loop
-mul-value c = record { fits = omega (arith, has-room (c .before .before .before .before .before .loop .value) (c .before .before .before .before .before .before .before .args .base) (c .before .before .digit .result) (search needs) (search needs) (c .if2 .left)) }
+mul-value c =
+    let c2 = c .before .before in let c5 = c2 .before .before .before in let c7 = c5 .before .before in
+    record {
+      fits = omega (
+        arith,
+        has-room (c5 .loop .value) (c7 .args .base) (c2 .digit .result) (search needs) (search needs)
+            (c .if2 .left),
+      );
+    }
 
 add-value : tie.Need-add-value Inv-loop μ-loop
-add-value c = record { fits = has-room (c .before .before .before .before .before .loop .value) (c .before .before .before .before .before .before .before .args .base) (c .before .before .digit .result) (search needs) (search needs) (c .if2 .left) }
-
-add-i : tie.Need-add-i Inv-loop μ-loop
-add-i c = search needs
-
-loop-less : tie.Need-loop-less Inv-loop μ-loop
-loop-less c = search needs
+add-value c =
+    let c2 = c .before .before in let c5 = c2 .before .before .before in let c7 = c5 .before .before in
+    record { fits = has-room (c5 .loop .value) (c7 .args .base) (c2 .digit .result) (search needs) (search needs) (c .if2 .left) }
 
 loop-again : tie.Need-loop-again Inv-loop μ-loop
-loop-again c = (search needs, sym (sym (c .before .before .before .before .before .loop .inv .1) ∙ digits-next (c .before .before .before .before .before .before .before .args .base) (c .before .before .before .before .before .loop .value) (now (c .before .before .before .before .before .before .before .args .digits)) (c .before .before .before .before .before .loop .i) (omega arith) ∙ rw (← c .before .before .digit .ensures .0, lt-leb _ _ (c .before .if1 .left), lt-ltb _ _ (has-room (c .before .before .before .before .before .loop .value) (c .before .before .before .before .before .before .before .args .base) (c .before .before .digit .result) (search needs) (search needs) (c .if2 .left)))))
+loop-again c =
+    let c1 = c .before in let c2 = c1 .before in let c5 = c2 .before .before .before in let c7 = c5 .before .before in (
+      search needs,
+      sym (sym (c5 .loop .inv .1)
+          ∙ digits-next (c7 .args .base) (c5 .loop .value) (now (c7 .args .digits)) (c5 .loop .i) (omega arith)
+          ∙ rw (
+            ← c2 .digit .ensures .0,
+            lt-leb _ _ (c1 .if1 .left),
+            lt-ltb _ _ (has-room (c5 .loop .value) (c7 .args .base) (c2 .digit .result) (search needs) (search needs) (c .if2 .left)),
+          )),
+    )
 
 returns-3 : tie.Need-returns-3 Inv-loop μ-loop
-returns-3 c = sym (digits-end (c .before .before .before .args .base) (c .before .loop .value) (now (c .before .before .before .args .digits)) (c .before .loop .i) (omega arith)) ∙ c .before .loop .inv .1
+returns-3 c =
+    let c1 = c .before in let c3 = c1 .before .before in
+    sym (digits-end (c3 .args .base) (c1 .loop .value) (now (c3 .args .digits)) (c1 .loop .i) (omega arith)) ∙ c1 .loop .inv .1
 
 pub in-base-spec : {M : Type 1} → statement M
 in-base-spec =
@@ -66,16 +77,16 @@ in-base-spec =
     Inv-loop
     μ-loop
     loop-holds
-    shared-slice-read-digit
-    digit-requires
-    cast-d
+    (λ c. search needs)  -- shared-slice-read-digit
+    (λ c κs. search needs)  -- digit-requires
+    (λ c. search needs)  -- cast-d
     returns
-    sub-if2
-    div-if2
+    (λ c. search needs)  -- sub-if2
+    (λ c. search needs)  -- div-if2
     returns-2
     mul-value
     add-value
-    add-i
-    loop-less
+    (λ c. search needs)  -- add-i
+    (λ c. search needs)  -- loop-less
     loop-again
     returns-3)

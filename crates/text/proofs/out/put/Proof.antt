@@ -8,22 +8,14 @@ use lib.Seq.{set-out}
 use Rattle.text.proofs.out.put.Statement.{statement}
 use Rattle.text.proofs.out.put.Tie as tie
 
-slice-write-out : tie.Need-slice-write-out
-slice-write-out c = search needs
-
-add-result : tie.Need-add-result
-add-result c = search needs
-
-same-length : tie.Need-same-length
-same-length c = search needs
-
 returns : tie.Need-returns
 unfolding putOne
 returns c = rw (lt-ltb _ _ (c .if1 .taken))
 
 returns-2 : tie.Need-returns-2
 unfolding putOne
-returns-2 c = rw (le-ltb _ _ (c .if1 .left), set-out (now (c .before .args .out)) (c .before .args .at) (c .before .args .b) (c .if1 .left))
+returns-2 c =
+    rw (le-ltb _ _ (c .if1 .left), set-out (now (c .before .args .out)) (c .before .args .at) (c .before .args .b) (c .if1 .left))
 
 pub put-spec : {M : Type 1} → statement M
-put-spec = tie.close (tie.spec slice-write-out add-result same-length returns returns-2)
+put-spec = tie.close (tie.spec (λ c. search needs) (λ c. search needs) (λ c. search needs) returns returns-2)

@@ -11,7 +11,8 @@ use Rattle.text.proofs.out.put_all.Statement.{statement}
 use Rattle.text.proofs.out.put_all.Tie as tie
 
 abbrev Inv-loop : tie.InvT-loop
-Inv-loop out₀ at bytes end₀ i₀ out end i = (i ≤ length bytes) × (length out ≡ length out₀) × (putAll (putTo out end) (drop i bytes) ≡ putAll (putTo out₀ at) bytes)
+Inv-loop out₀ at bytes end₀ i₀ out end i =
+    (i ≤ length bytes) × (length out ≡ length out₀) × (putAll (putTo out end) (drop i bytes) ≡ putAll (putTo out₀ at) bytes)
 
 abbrev μ-loop : tie.MeasureT-loop
 μ-loop out₀ at bytes end₀ i₀ out end i = length bytes - i
@@ -19,26 +20,20 @@ abbrev μ-loop : tie.MeasureT-loop
 loop-holds : tie.Need-loop-holds Inv-loop μ-loop
 loop-holds c = (omega arith, refl, refl)
 
-shared-slice-read-put : tie.Need-shared-slice-read-put Inv-loop μ-loop
-shared-slice-read-put c = search needs
-
-put-requires : tie.Need-put-requires Inv-loop μ-loop
-put-requires c κs = search needs
-
-add-i : tie.Need-add-i Inv-loop μ-loop
-add-i c = search needs
-
-loop-less : tie.Need-loop-less Inv-loop μ-loop
-loop-less c = search needs
-
 loop-again : tie.Need-loop-again Inv-loop μ-loop
-loop-again c = (search needs, search needs, rw (c .before .before .put .ensures) (sym (put-next (putTo (c .before .before .before .before .before .before .loop .out) (c .before .before .before .before .before .before .loop .end)) (now (c .before .before .before .before .before .before .before .before .before .args .bytes)) (c .before .before .before .before .before .before .loop .i) (omega arith)) ∙ c .before .before .before .before .before .before .loop .inv .2))
-
-same-length : tie.Need-same-length Inv-loop μ-loop
-same-length c = search needs
+loop-again c =
+    let c2 = c .before .before in let c6 = c2 .before .before .before .before in let c9 = c6 .before .before .before in (
+      search needs,
+      search needs,
+      rw (c2 .put .ensures)
+          (sym (put-next (putTo (c6 .loop .out) (c6 .loop .end)) (now (c9 .args .bytes)) (c6 .loop .i) (omega arith))
+          ∙ c6 .loop .inv .2),
+    )
 
 returns : tie.Need-returns Inv-loop μ-loop
-returns c = sym (put-end (putTo (c .before .loop .out) (c .before .loop .end)) (now (c .before .before .before .before .args .bytes)) (c .before .loop .i) (omega arith)) ∙ c .before .loop .inv .2
+returns c =
+    let c1 = c .before in let c4 = c1 .before .before .before in
+    sym (put-end (putTo (c1 .loop .out) (c1 .loop .end)) (now (c4 .args .bytes)) (c1 .loop .i) (omega arith)) ∙ c1 .loop .inv .2
 
 pub put-all-spec : {M : Type 1} → statement M
 put-all-spec =
@@ -47,10 +42,10 @@ put-all-spec =
     Inv-loop
     μ-loop
     loop-holds
-    shared-slice-read-put
-    put-requires
-    add-i
-    loop-less
+    (λ c. search needs)  -- shared-slice-read-put
+    (λ c κs. search needs)  -- put-requires
+    (λ c. search needs)  -- add-i
+    (λ c. search needs)  -- loop-less
     loop-again
-    same-length
+    (λ c. search needs)  -- same-length
     returns)

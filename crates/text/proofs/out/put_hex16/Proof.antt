@@ -9,31 +9,19 @@ use Rattle.text.specs.Hex.{hex8}
 use Rattle.text.proofs.out.put_hex16.Statement.{statement}
 use Rattle.text.proofs.out.put_hex16.Tie as tie
 
-cast-put-hex8 : tie.Need-cast-put-hex8
-cast-put-hex8 c = search needs
-
-put-hex8-requires : tie.Need-put-hex8-requires
-put-hex8-requires c κs = search needs
-
-cast-put-hex8-2 : tie.Need-cast-put-hex8-2
-cast-put-hex8-2 c = search needs
-
-put-hex8-requires-2 : tie.Need-put-hex8-requires-2
-put-hex8-requires-2 c κs = search needs
-
-same-length : tie.Need-same-length
-same-length c = search needs
-
 returns : tie.Need-returns
-returns c = c .before .before .put-hex82 .ensures ∙ rw (c .before .before .before .before .before .before .put-hex8 .ensures) (sym (put-append (putTo (now (c .before .before .before .before .before .before .before .before .before .args .out)) (c .before .before .before .before .before .before .before .before .before .args .at)) (hex8 (c .before .before .before .before .before .before .before .before .before .args .n / 256)) (hex8 (c .before .before .before .before .before .before .before .before .before .args .n % 256))))
+returns c =
+    let c2 = c .before .before in let c6 = c2 .before .before .before .before in let c9 = c6 .before .before .before in
+    c2 .put-hex82 .ensures ∙ rw (c6 .put-hex8 .ensures)
+    (sym (put-append (putTo (now (c9 .args .out)) (c9 .args .at)) (hex8 (c9 .args .n / 256)) (hex8 (c9 .args .n % 256))))
 
 pub put-hex16-spec : {M : Type 1} → statement M
 put-hex16-spec =
     tie.close
     (tie.spec
-    cast-put-hex8
-    put-hex8-requires
-    cast-put-hex8-2
-    put-hex8-requires-2
-    same-length
+    (λ c. search needs)  -- cast-put-hex8
+    (λ c κs. search needs)  -- put-hex8-requires
+    (λ c. search needs)  -- cast-put-hex8-2
+    (λ c κs. search needs)  -- put-hex8-requires-2
+    (λ c. search needs)  -- same-length
     returns)

@@ -9,31 +9,20 @@ use Rattle.text.specs.Hex.{hex32}
 use Rattle.text.proofs.out.put_hex64.Statement.{statement}
 use Rattle.text.proofs.out.put_hex64.Tie as tie
 
-cast-put-hex32 : tie.Need-cast-put-hex32
-cast-put-hex32 c = search needs
-
-put-hex32-requires : tie.Need-put-hex32-requires
-put-hex32-requires c κs = search needs
-
-cast-put-hex32-2 : tie.Need-cast-put-hex32-2
-cast-put-hex32-2 c = search needs
-
-put-hex32-requires-2 : tie.Need-put-hex32-requires-2
-put-hex32-requires-2 c κs = search needs
-
-same-length : tie.Need-same-length
-same-length c = search needs
-
 returns : tie.Need-returns
-returns c = c .before .before .put-hex322 .ensures ∙ rw (c .before .before .before .before .before .before .put-hex32 .ensures) (sym (put-append (putTo (now (c .before .before .before .before .before .before .before .before .before .args .out)) (c .before .before .before .before .before .before .before .before .before .args .at)) (hex32 (c .before .before .before .before .before .before .before .before .before .args .n / 4294967296)) (hex32 (c .before .before .before .before .before .before .before .before .before .args .n % 4294967296))))
+returns c =
+    let c2 = c .before .before in let c6 = c2 .before .before .before .before in let c9 = c6 .before .before .before in
+    c2 .put-hex322 .ensures ∙ rw (c6 .put-hex32 .ensures)
+    (sym (put-append (putTo (now (c9 .args .out)) (c9 .args .at)) (hex32 (c9 .args .n / 4294967296))
+    (hex32 (c9 .args .n % 4294967296))))
 
 pub put-hex64-spec : {M : Type 1} → statement M
 put-hex64-spec =
     tie.close
     (tie.spec
-    cast-put-hex32
-    put-hex32-requires
-    cast-put-hex32-2
-    put-hex32-requires-2
-    same-length
+    (λ c. search needs)  -- cast-put-hex32
+    (λ c κs. search needs)  -- put-hex32-requires
+    (λ c. search needs)  -- cast-put-hex32-2
+    (λ c κs. search needs)  -- put-hex32-requires-2
+    (λ c. search needs)  -- same-length
     returns)

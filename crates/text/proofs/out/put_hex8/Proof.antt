@@ -9,25 +9,20 @@ use Rattle.text.specs.Hex.{glyphOf}
 use Rattle.text.proofs.out.put_hex8.Statement.{statement}
 use Rattle.text.proofs.out.put_hex8.Tie as tie
 
-glyph-requires : tie.Need-glyph-requires
-glyph-requires c κs = search needs
-
-put-requires : tie.Need-put-requires
-put-requires c κs = search needs
-
-glyph-requires-2 : tie.Need-glyph-requires-2
-glyph-requires-2 c κs = search needs
-
-put-requires-2 : tie.Need-put-requires-2
-put-requires-2 c κs = search needs
-
-same-length : tie.Need-same-length
-same-length c = search needs
-
 returns : tie.Need-returns
-returns c = c .before .before .put2 .ensures ∙ rw (c .before .before .before .before .before .before .before .put .ensures, c .before .before .before .glyph2 .ensures, c .before .before .before .before .before .before .before .before .glyph .ensures) (sym (put-pair (putTo (now (c .before .before .before .before .before .before .before .before .before .before .before .args .out)) (c .before .before .before .before .before .before .before .before .before .before .before .args .at)) (glyphOf (c .before .before .before .before .before .before .before .before .before .before .before .args .b / 16)) (glyphOf (c .before .before .before .before .before .before .before .before .before .before .before .args .b % 16))))
+returns c =
+    let c2 = c .before .before in let c3 = c2 .before in let c7 = c3 .before .before .before .before in
+    let c8 = c7 .before in let c11 = c8 .before .before .before in
+    c2 .put2 .ensures ∙ rw (c7 .put .ensures, c3 .glyph2 .ensures, c8 .glyph .ensures)
+    (sym (put-pair (putTo (now (c11 .args .out)) (c11 .args .at)) (glyphOf (c11 .args .b / 16)) (glyphOf (c11 .args .b % 16))))
 
 pub put-hex8-spec : {M : Type 1} → statement M
 put-hex8-spec =
     tie.close
-    (tie.spec glyph-requires put-requires glyph-requires-2 put-requires-2 same-length returns)
+    (tie.spec
+    (λ c κs. search needs)  -- glyph-requires
+    (λ c κs. search needs)  -- put-requires
+    (λ c κs. search needs)  -- glyph-requires-2
+    (λ c κs. search needs)  -- put-requires-2
+    (λ c. search needs)  -- same-length
+    returns)

@@ -20,23 +20,27 @@ abbrev μ-loop : tie.MeasureT-loop
 loop-holds : tie.Need-loop-holds Inv-loop μ-loop
 loop-holds c = (omega arith, omega arith, refl)
 
-shared-slice-read-if1 : tie.Need-shared-slice-read-if1 Inv-loop μ-loop
-shared-slice-read-if1 c = search needs
-
 returns : tie.Need-returns Inv-loop μ-loop
-returns c = (search needs, search needs, omega (arith, rw (eq-eqb _ _ (c .if1 .taken)) at (word-next (now (c .before .before .before .before .args .line)) (c .before .before .before .loop .i) (omega arith))))
-
-add-i : tie.Need-add-i Inv-loop μ-loop
-add-i c = search needs
-
-loop-less : tie.Need-loop-less Inv-loop μ-loop
-loop-less c = search needs
+returns c =
+    let c3 = c .before .before .before in let c4 = c3 .before in (
+      search needs,
+      search needs,
+      omega
+          (arith, rw (eq-eqb _ _ (c .if1 .taken)) at (word-next (now (c4 .args .line)) (c3 .loop .i) (omega arith))),
+    )
 
 loop-again : tie.Need-loop-again Inv-loop μ-loop
-loop-again c = (search needs, search needs, omega (arith, rw (ne-eqb _ _ (c .if1 .left)) at (word-next (now (c .before .before .before .before .args .line)) (c .before .before .before .loop .i) (omega arith))))
+loop-again c =
+    let c3 = c .before .before .before in let c4 = c3 .before in (
+      search needs,
+      search needs,
+      omega
+          (arith, rw (ne-eqb _ _ (c .if1 .left)) at (word-next (now (c4 .args .line)) (c3 .loop .i) (omega arith))),
+    )
 
 returns-2 : tie.Need-returns-2 Inv-loop μ-loop
-returns-2 c = (search needs, search needs, omega (arith, word-end (now (c .before .before .args .line)) (c .before .loop .i) (omega arith)))
+returns-2 c =
+    (search needs, search needs, omega (arith, word-end (now (c .before .before .args .line)) (c .before .loop .i) (omega arith)))
 
 pub end-spec : {M : Type 1} → statement M
 end-spec =
@@ -45,9 +49,9 @@ end-spec =
     Inv-loop
     μ-loop
     loop-holds
-    shared-slice-read-if1
+    (λ c. search needs)  -- shared-slice-read-if1
     returns
-    add-i
-    loop-less
+    (λ c. search needs)  -- add-i
+    (λ c. search needs)  -- loop-less
     loop-again
     returns-2)

@@ -19,23 +19,10 @@ abbrev μ-loop : tie.MeasureT-loop
 loop-holds : tie.Need-loop-holds Inv-loop μ-loop
 loop-holds c = (omega arith, omega arith, omega arith)
 
-shared-slice-read-is-space : tie.Need-shared-slice-read-is-space Inv-loop μ-loop
-shared-slice-read-is-space c = search needs
-
-is-space-requires : tie.Need-is-space-requires Inv-loop μ-loop
-is-space-requires c κs = search needs
-
-add-n : tie.Need-add-n Inv-loop μ-loop
-add-n c = search needs
-
-add-i : tie.Need-add-i Inv-loop μ-loop
-add-i c = search needs
-
-loop-less : tie.Need-loop-less Inv-loop μ-loop
-loop-less c = search needs
-
 loop-again : tie.Need-loop-again Inv-loop μ-loop
-loop-again c = (search needs, search needs, omega (arith, spaces-next (now (c .before .before .before .before .before .args .line)) (c .before .before .before .loop .i) (omega arith)))
+loop-again c =
+    let c3 = c .before .before .before in let c5 = c3 .before .before in
+    (search needs, search needs, omega (arith, spaces-next (now (c5 .args .line)) (c3 .loop .i) (omega arith)))
 
 returns : tie.Need-returns Inv-loop μ-loop
 returns c = omega (arith, spaces-end (now (c .before .before .before .args .line)) (c .before .loop .i) (omega arith))
@@ -47,10 +34,10 @@ spaces-spec =
     Inv-loop
     μ-loop
     loop-holds
-    shared-slice-read-is-space
-    is-space-requires
-    add-n
-    add-i
-    loop-less
+    (λ c. search needs)  -- shared-slice-read-is-space
+    (λ c κs. search needs)  -- is-space-requires
+    (λ c. search needs)  -- add-n
+    (λ c. search needs)  -- add-i
+    (λ c. search needs)  -- loop-less
     loop-again
     returns)

@@ -20,28 +20,23 @@ loop-holds : tie.Need-loop-holds Inv-loop μ-loop
 loop-holds c = (omega arith, refl)
 
 returns : tie.Need-returns Inv-loop μ-loop
-returns c = (search needs, sym (behind-none (drop (c .before .before .loop .i) (now (c .before .before .before .before .args .line)))) ∙ rw (← c .if1 .taken) (c .before .before .loop .inv .1))
-
-shared-slice-read-is-space : tie.Need-shared-slice-read-is-space Inv-loop μ-loop
-shared-slice-read-is-space c = search needs
-
-is-space-requires : tie.Need-is-space-requires Inv-loop μ-loop
-is-space-requires c κs = search needs
-
-sub-left : tie.Need-sub-left Inv-loop μ-loop
-sub-left c = search needs
-
-add-i : tie.Need-add-i Inv-loop μ-loop
-add-i c = search needs
-
-loop-less : tie.Need-loop-less Inv-loop μ-loop
-loop-less c = search needs
+returns c =
+    let c2 = c .before .before in let c4 = c2 .before .before in
+    (search needs, sym (behind-none (drop (c2 .loop .i) (now (c4 .args .line)))) ∙ rw (← c .if1 .taken) (c2 .loop .inv .1))
 
 loop-again : tie.Need-loop-again Inv-loop μ-loop
-loop-again c = (search needs, rw (c .is-space .ensures .0) (sym (behind-next (c .before .before .before .before .loop .left) (now (c .before .before .before .before .before .before .args .line)) (c .before .before .before .before .loop .i) (omega (arith, c .before .before .if1 .left)) (omega arith)) ∙ c .before .before .before .before .loop .inv .1))
+loop-again c =
+    let c2 = c .before .before in let c4 = c2 .before .before in let c6 = c4 .before .before in (
+      search needs,
+      rw (c .is-space .ensures .0)
+          (sym (behind-next (c4 .loop .left) (now (c6 .args .line)) (c4 .loop .i) (omega (arith, c2 .if1 .left)) (omega arith))
+          ∙ c4 .loop .inv .1),
+    )
 
 returns-2 : tie.Need-returns-2 Inv-loop μ-loop
-returns-2 c = (search needs, sym (behind-end (c .before .loop .left) (now (c .before .before .before .args .line)) (c .before .loop .i) (omega arith)) ∙ c .before .loop .inv .1)
+returns-2 c =
+    let c1 = c .before in let c3 = c1 .before .before in
+    (search needs, sym (behind-end (c1 .loop .left) (now (c3 .args .line)) (c1 .loop .i) (omega arith)) ∙ c1 .loop .inv .1)
 
 pub start-spec : {M : Type 1} → statement M
 start-spec =
@@ -51,10 +46,10 @@ start-spec =
     μ-loop
     loop-holds
     returns
-    shared-slice-read-is-space
-    is-space-requires
-    sub-left
-    add-i
-    loop-less
+    (λ c. search needs)  -- shared-slice-read-is-space
+    (λ c κs. search needs)  -- is-space-requires
+    (λ c. search needs)  -- sub-left
+    (λ c. search needs)  -- add-i
+    (λ c. search needs)  -- loop-less
     loop-again
     returns-2)

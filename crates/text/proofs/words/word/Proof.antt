@@ -9,25 +9,20 @@ use Rattle.text.specs.Words.{wordLength}
 use Rattle.text.proofs.words.word.Statement.{statement}
 use Rattle.text.proofs.words.word.Tie as tie
 
-start-requires : tie.Need-start-requires
-start-requires c κs = search needs
-
-end-requires : tie.Need-end-requires
-end-requires c κs = search needs
-
-sub-result : tie.Need-sub-result
-sub-result c = search needs
-
-part-result-start : tie.Need-part-result-start
-part-result-start c = search needs
-
-part-result-end : tie.Need-part-result-end
-part-result-end c = search needs
-
 returns : tie.Need-returns
-returns c = let h : c .before .end .result - c .before .before .start .result ≡ wordLength (drop (c .before .before .start .result) (now (c .before .before .before .before .args .line))) = omega (arith, c .before .end .ensures) in rw (h, c .before .before .start .ensures .1)
+returns c =
+    let c1 = c .before in let c2 = c1 .before in let c4 = c2 .before .before in
+    let h : c1 .end .result - c2 .start .result ≡ wordLength (drop (c2 .start .result) (now (c4 .args .line))) = omega
+    (arith, c1 .end .ensures) in
+    rw (h, c2 .start .ensures .1)
 
 pub word-spec : {M : Type 1} → statement M
 word-spec =
     tie.close
-    (tie.spec start-requires end-requires sub-result part-result-start part-result-end returns)
+    (tie.spec
+    (λ c κs. search needs)  -- start-requires
+    (λ c κs. search needs)  -- end-requires
+    (λ c. search needs)  -- sub-result
+    (λ c. search needs)  -- part-result-start
+    (λ c. search needs)  -- part-result-end
+    returns)

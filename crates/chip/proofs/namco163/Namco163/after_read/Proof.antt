@@ -9,16 +9,15 @@ returns : tie.Need-returns
 unfolding afterRead
 returns c = rw (lt-ltb _ _ (c .if1 .taken))
 
-read-register-requires : tie.Need-read-register-requires
-read-register-requires c κs = search needs
-
 returns-2 : tie.Need-returns-2
 unfolding afterRead
-returns-2 c = rw (le-ltb _ _ (c .before .before .before .before .if1 .left), lt-ltb _ _ (c .before .before .before .if2 .taken), c .before .read-register .ensures)
+returns-2 c =
+    let c1 = c .before in let c3 = c1 .before .before in let c4 = c3 .before in
+    rw (le-ltb _ _ (c4 .if1 .left), lt-ltb _ _ (c3 .if2 .taken), c1 .read-register .ensures)
 
 returns-3 : tie.Need-returns-3
 unfolding afterRead
 returns-3 c = rw (le-ltb _ _ (c .before .if1 .left), le-ltb _ _ (c .if2 .left))
 
 pub after-read-spec : {M : Type 1} → statement M
-after-read-spec = tie.close (tie.spec returns read-register-requires returns-2 returns-3)
+after-read-spec = tie.close (tie.spec returns (λ c κs. search needs) returns-2 returns-3)

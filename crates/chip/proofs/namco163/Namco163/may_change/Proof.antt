@@ -4,9 +4,6 @@ use Rattle.chip.specs.Detection.{mayChange}
 use Rattle.chip.proofs.namco163.Namco163.may_change.Statement.{statement}
 use Rattle.chip.proofs.namco163.Namco163.may_change.Tie as tie
 
-num-requires : tie.Need-num-requires
-num-requires c κs = search needs
-
 returns : tie.Need-returns
 unfolding mayChange
 returns c = rw (c .before .before .if1 .taken, c .before .if2 .taken, c .num .ensures .0)
@@ -20,4 +17,4 @@ unfolding mayChange
 returns-3 c = rw (c .if1 .left)
 
 pub may-change-spec : {M : Type 1} → statement M
-may-change-spec = tie.close (tie.spec num-requires returns returns-2 returns-3)
+may-change-spec = tie.close (tie.spec (λ c κs. search needs) returns returns-2 returns-3)

@@ -4,12 +4,6 @@ use Rattle.chip.specs.Detection.{maybeSetBoard}
 use Rattle.chip.proofs.namco163.Namco163.maybe_set_board.Statement.{statement}
 use Rattle.chip.proofs.namco163.Namco163.maybe_set_board.Tie as tie
 
-may-change-requires : tie.Need-may-change-requires
-may-change-requires c κs = search needs
-
-with-board-requires : tie.Need-with-board-requires
-with-board-requires c κs = search needs
-
 returns : tie.Need-returns
 unfolding maybeSetBoard
 returns c = rw (c .with-board .ensures, ← c .before .before .may-change .ensures, c .before .if1 .taken)
@@ -19,5 +13,4 @@ unfolding maybeSetBoard
 returns-2 c = rw (← c .before .may-change .ensures, c .if1 .left)
 
 pub maybe-set-board-spec : {M : Type 1} → statement M
-maybe-set-board-spec =
-    tie.close (tie.spec may-change-requires with-board-requires returns returns-2)
+maybe-set-board-spec = tie.close (tie.spec (λ c κs. search needs) (λ c κs. search needs) returns returns-2)

@@ -14,16 +14,17 @@ returns-2 : tie.Need-returns-2
 unfolding clockCounter nextCounter risesFrom moves
 returns-2 c = rw (c .if2 .taken)
 
-wrapping-add-u16-requires : tie.Need-wrapping-add-u16-requires
-wrapping-add-u16-requires c κs = search needs
-
 returns-3 : tie.Need-returns-3
 unfolding clockCounter nextCounter risesFrom moves
-returns-3 c = rw (le-ltb _ _ (c .before .before .before .if1 .left), ne-eqb _ _ (c .before .before .if2 .left), ← c .before .wrapping-add-u16 .ensures, eq-eqb _ _ (c .if3 .taken))
+returns-3 c =
+    let c1 = c .before in let c2 = c1 .before in let c3 = c2 .before in
+    rw (le-ltb _ _ (c3 .if1 .left), ne-eqb _ _ (c2 .if2 .left), ← c1 .wrapping-add-u16 .ensures, eq-eqb _ _ (c .if3 .taken))
 
 returns-4 : tie.Need-returns-4
 unfolding clockCounter nextCounter risesFrom moves
-returns-4 c = rw (le-ltb _ _ (c .before .before .before .if1 .left), ne-eqb _ _ (c .before .before .if2 .left), ← c .before .wrapping-add-u16 .ensures, ne-eqb _ _ (c .if3 .left))
+returns-4 c =
+    let c1 = c .before in let c2 = c1 .before in let c3 = c2 .before in
+    rw (le-ltb _ _ (c3 .if1 .left), ne-eqb _ _ (c2 .if2 .left), ← c1 .wrapping-add-u16 .ensures, ne-eqb _ _ (c .if3 .left))
 
 pub clock-spec : {M : Type 1} → statement M
-clock-spec = tie.close (tie.spec returns returns-2 wrapping-add-u16-requires returns-3 returns-4)
+clock-spec = tie.close (tie.spec returns returns-2 (λ c κs. search needs) returns-3 returns-4)

@@ -5,18 +5,6 @@ use borrow.Author.Needs.{needs}
 use Rattle.memory.proofs.layout.Layout.chr_page.Statement.{statement}
 use Rattle.memory.proofs.layout.Layout.chr_page.Tie as tie
 
-add-result : tie.Need-add-result
-add-result c = search needs
-
-add-result-2 : tie.Need-add-result-2
-add-result-2 c = search needs
-
-add-result-3 : tie.Need-add-result-3
-add-result-3 c = search needs
-
-add-result-4 : tie.Need-add-result-4
-add-result-4 c = search needs
-
 returns : tie.Need-returns
 unfolding firstPage pagesBefore arenaOrder
 returns c = rw (c .before .before .before .if1 .taken) (omega arith, omega arith)
@@ -27,4 +15,11 @@ returns-2 c = rw (c .before .if1 .left) (omega arith, omega arith)
 
 pub chr-page-spec : {M : Type 1} → statement M
 chr-page-spec =
-    tie.close (tie.spec add-result add-result-2 add-result-3 add-result-4 returns returns-2)
+    tie.close
+    (tie.spec
+    (λ c. search needs)  -- add-result
+    (λ c. search needs)  -- add-result-2
+    (λ c. search needs)  -- add-result-3
+    (λ c. search needs)  -- add-result-4
+    returns
+    returns-2)

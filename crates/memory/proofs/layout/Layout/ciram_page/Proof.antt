@@ -5,20 +5,15 @@ use borrow.Author.Needs.{needs}
 use Rattle.memory.proofs.layout.Layout.ciram_page.Statement.{statement}
 use Rattle.memory.proofs.layout.Layout.ciram_page.Tie as tie
 
-add-result : tie.Need-add-result
-add-result c = search needs
-
-add-result-2 : tie.Need-add-result-2
-add-result-2 c = search needs
-
-add-result-3 : tie.Need-add-result-3
-add-result-3 c = search needs
-
-add-result-4 : tie.Need-add-result-4
-add-result-4 c = search needs
-
 returns : tie.Need-returns
 returns c = (omega (arith, first-ciram (c .before .before .before .before .args .self)), omega arith)
 
 pub ciram-page-spec : {M : Type 1} → statement M
-ciram-page-spec = tie.close (tie.spec add-result add-result-2 add-result-3 add-result-4 returns)
+ciram-page-spec =
+    tie.close
+    (tie.spec
+    (λ c. search needs)  -- add-result
+    (λ c. search needs)  -- add-result-2
+    (λ c. search needs)  -- add-result-3
+    (λ c. search needs)  -- add-result-4
+    returns)

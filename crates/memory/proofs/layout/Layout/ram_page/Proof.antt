@@ -5,15 +5,6 @@ use borrow.Author.Needs.{needs}
 use Rattle.memory.proofs.layout.Layout.ram_page.Statement.{statement}
 use Rattle.memory.proofs.layout.Layout.ram_page.Tie as tie
 
-add-result : tie.Need-add-result
-add-result c = search needs
-
-add-result-2 : tie.Need-add-result-2
-add-result-2 c = search needs
-
-add-result-3 : tie.Need-add-result-3
-add-result-3 c = search needs
-
 returns : tie.Need-returns
 unfolding firstPage pagesBefore arenaOrder
 returns c = rw (c .before .if1 .taken) (omega arith, omega arith)
@@ -23,4 +14,4 @@ unfolding firstPage pagesBefore arenaOrder
 returns-2 c = rw (c .before .before .if1 .left) (omega arith, omega arith)
 
 pub ram-page-spec : {M : Type 1} → statement M
-ram-page-spec = tie.close (tie.spec add-result add-result-2 add-result-3 returns returns-2)
+ram-page-spec = tie.close (tie.spec (λ c. search needs) (λ c. search needs) (λ c. search needs) returns returns-2)

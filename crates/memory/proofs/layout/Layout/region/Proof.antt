@@ -14,98 +14,55 @@ bounded : {r : Region} {l : Layout} {used : ℕ} (s : Src) → (GoodLayout l) ×
     → r ≡ regionOf l used s → (r ≡ regionOf l used s) × (r .start + r .len ≤ 858112)
 bounded {r} {l} {used} s g e = (e, rw e (region-le l used s (g .0) (g .1)))
 
-enum-told : tie.Need-enum-told
-enum-told c = search needs
-
-mul-t5 : tie.Need-mul-t5
-mul-t5 c = search needs
-
-enum-told-2 : tie.Need-enum-told-2
-enum-told-2 c = search needs
-
-ram-page-requires : tie.Need-ram-page-requires
-ram-page-requires c κs = search needs
-
-mul-t7 : tie.Need-mul-t7
-mul-t7 c = search needs
-
-mul-t8 : tie.Need-mul-t8
-mul-t8 c = search needs
-
-enum-told-3 : tie.Need-enum-told-3
-enum-told-3 c = search needs
-
-battery-page-requires : tie.Need-battery-page-requires
-battery-page-requires c κs = search needs
-
-mul-t10 : tie.Need-mul-t10
-mul-t10 c = search needs
-
-enum-told-4 : tie.Need-enum-told-4
-enum-told-4 c = search needs
-
-chr-page-requires : tie.Need-chr-page-requires
-chr-page-requires c κs = search needs
-
-mul-t12 : tie.Need-mul-t12
-mul-t12 c = search needs
-
-mul-t13 : tie.Need-mul-t13
-mul-t13 c = search needs
-
-enum-told-5 : tie.Need-enum-told-5
-enum-told-5 c = search needs
-
-ciram-page-requires : tie.Need-ciram-page-requires
-ciram-page-requires c κs = search needs
-
-mul-t15 : tie.Need-mul-t15
-mul-t15 c = search needs
-
-mul-t16 : tie.Need-mul-t16
-mul-t16 c = search needs
-
 returns : tie.Need-returns
 unfolding regionOf firstPage pagesBefore arenaOrder
 returns c = bounded (c .before .before .before .args .src) (c .before .before .before .pre) (rw (c .before .enum-told .given .1))
 
 returns-2 : tie.Need-returns-2
 unfolding regionOf
-returns-2 c = bounded (c .before .before .before .before .args .src) (c .before .before .before .before .pre) (rw (c .before .before .enum-told2 .given .1, c .before .ram-page .ensures .0))
+returns-2 c =
+    let c1 = c .before in let c2 = c1 .before in let c4 = c2 .before .before in
+    bounded (c4 .args .src) (c4 .pre) (rw (c2 .enum-told2 .given .1, c1 .ram-page .ensures .0))
 
 returns-3 : tie.Need-returns-3
 unfolding regionOf
-returns-3 c = bounded (c .before .before .before .args .src) (c .before .before .before .pre) (rw (c .before .enum-told3 .given .1, c .battery-page .ensures .0))
+returns-3 c =
+    let c1 = c .before in let c3 = c1 .before .before in
+    bounded (c3 .args .src) (c3 .pre) (rw (c1 .enum-told3 .given .1, c .battery-page .ensures .0))
 
 returns-4 : tie.Need-returns-4
 unfolding regionOf
-returns-4 c = bounded (c .before .before .before .before .args .src) (c .before .before .before .before .pre) (rw (c .before .before .enum-told4 .given .1, c .before .chr-page .ensures .0))
+returns-4 c =
+    let c1 = c .before in let c2 = c1 .before in let c4 = c2 .before .before in
+    bounded (c4 .args .src) (c4 .pre) (rw (c2 .enum-told4 .given .1, c1 .chr-page .ensures .0))
 
 returns-5 : tie.Need-returns-5
 unfolding regionOf
-returns-5 c = bounded (c .before .before .before .before .args .src) (c .before .before .before .before .pre) (rw (c .before .before .enum-told5 .given .1, c .before .ciram-page .ensures .0))
+returns-5 c =
+    let c1 = c .before in let c2 = c1 .before in let c4 = c2 .before .before in
+    bounded (c4 .args .src) (c4 .pre) (rw (c2 .enum-told5 .given .1, c1 .ciram-page .ensures .0))
 
 pub region-spec : {M : Type 1} → statement M
 region-spec =
     tie.close
     (tie.spec
-    enum-told
-    mul-t5
-    enum-told-2
-    ram-page-requires
-    mul-t7
-    mul-t8
-    enum-told-3
-    battery-page-requires
-    mul-t10
-    enum-told-4
-    chr-page-requires
-    mul-t12
-    mul-t13
-    enum-told-5
-    ciram-page-requires
-    mul-t15
-    mul-t16
+    (λ c. search needs)  -- enum-told
+    (λ c. search needs)  -- mul-t5
+    (λ c. search needs)  -- enum-told-2
+    (λ c κs. search needs)  -- ram-page-requires
+    (λ c. search needs)  -- mul-t7
+    (λ c. search needs)  -- mul-t8
+    (λ c. search needs)  -- enum-told-3
+    (λ c κs. search needs)  -- battery-page-requires
+    (λ c. search needs)  -- mul-t10
+    (λ c. search needs)  -- enum-told-4
+    (λ c κs. search needs)  -- chr-page-requires
+    (λ c. search needs)  -- mul-t12
+    (λ c. search needs)  -- mul-t13
+    (λ c. search needs)  -- enum-told-5
+    (λ c κs. search needs)  -- ciram-page-requires
+    (λ c. search needs)  -- mul-t15
+    (λ c. search needs)  -- mul-t16
     returns
     returns-2
     returns-3

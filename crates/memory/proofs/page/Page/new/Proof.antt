@@ -8,9 +8,6 @@ use mir.Facts.{fits-mask}
 use Rattle.memory.proofs.page.Page.new.Statement.{statement}
 use Rattle.memory.proofs.page.Page.new.Tie as tie
 
-cast-low : tie.Need-cast-low
-cast-low c = search needs
-
 cast-low-2 : tie.Need-cast-low-2
 cast-low-2 c = fits-mask (c .args .offset) 30 tt
 
@@ -22,4 +19,4 @@ returns-2 : tie.Need-returns-2
 returns-2 c = rw (c .if1 .left, and-mask (c .before .args .offset) 30, zero-add)
 
 pub new-spec : {M : Type 1} → statement M
-new-spec = tie.close (tie.spec cast-low cast-low-2 returns returns-2)
+new-spec = tie.close (tie.spec (λ c. search needs) cast-low-2 returns returns-2)

@@ -4,9 +4,6 @@ use Rattle.sound.specs.Registers.{advanced}
 use Rattle.sound.proofs.audio.Audio.advance.Statement.{statement}
 use Rattle.sound.proofs.audio.Audio.advance.Tie as tie
 
-add-self : tie.Need-add-self
-add-self c = search needs
-
 returns : tie.Need-returns
 unfolding advanced
 returns c = simp (c .before .if1 .taken)
@@ -16,4 +13,4 @@ unfolding advanced
 returns-2 c = simp (c .if1 .left)
 
 pub advance-spec : {M : Type 1} → statement M
-advance-spec = tie.close (tie.spec add-self returns returns-2)
+advance-spec = tie.close (tie.spec (λ c. search needs) returns returns-2)

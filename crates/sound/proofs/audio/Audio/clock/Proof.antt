@@ -15,46 +15,39 @@ use Rattle.sound.proofs.audio.Audio.clock.Tie as tie
 returns : tie.Need-returns
 returns c = (sym (clock-off _ (c .if1 .taken)), c .before .pre)
 
-add-u : tie.Need-add-u
-add-u c = search needs
-
-update-channel-requires : tie.Need-update-channel-requires
-update-channel-requires c κs = search needs
-
-channel-count-requires : tie.Need-channel-count-requires
-channel-count-requires c κs = search needs
-
-next-channel-requires : tie.Need-next-channel-requires
-next-channel-requires c κs = search needs
-
 -- the update and the move, as the code puts them together
-moved : (a b : Audio) (k c : ℕ) → b ≡ updateChannel (withCounter a 0) → c ≡ channelCount (b .ram) → k ≡ nextChannel (b .«current_channel») c
+moved : (a b : Audio) (k c : ℕ) → b ≡ updateChannel (withCounter a 0) → c ≡ channelCount (b .ram) → k ≡ nextChannel
+    (b .«current_channel») c
     → withChannel b k ≡ withCounter (updated a) 0
 unfolding updated updateChannel
 moved a b k c e f g = rw (g, f, e)
 
 returns-2 : tie.Need-returns-2
 returns-2 c =
-    let s = c .before .before .before .before .before .before .before .before in
+    let c1 = c .before in let c4 = c1 .before .before .before in let c5 = c4 .before in let c7 = c5 .before .before in
+    let c8 = c7 .before in
+    let s = c8 in
     let a = s .args .self in
-    let d = c .before .before .before .before .before .before .before .if1 .left in
-    let e = c .before .before .before .before .before .if2 .taken in
-    let m = moved a _ _ _ (c .before .before .before .before .update-channel .ensures .0) (c .before .channel-count .ensures .0) (c .next-channel .ensures .0) in
+    let d = c7 .if1 .left in
+    let e = c5 .if2 .taken in
+    let m = moved a _ _ _ (c4 .update-channel .ensures .0) (c1 .channel-count .ensures .0) (c .next-channel .ensures .0) in
     with-range _ _ (m ∙ sym (clock-due a d e)) (clock-range a (typed _ _ (s .good .0)) (s .pre))
 
 returns-3 : tie.Need-returns-3
 returns-3 c =
-    let s = c .before .before .before in
-    with-range _ _ (sym (clock-quiet (s .args .self) (c .before .before .if1 .left) (c .if2 .left))) (clock-range (s .args .self) (typed _ _ (s .good .0)) (s .pre))
+    let c2 = c .before .before in let c3 = c2 .before in
+    let s = c3 in
+    with-range _ _ (sym (clock-quiet (s .args .self) (c2 .if1 .left) (c .if2 .left)))
+    (clock-range (s .args .self) (typed _ _ (s .good .0)) (s .pre))
 
 pub clock-spec : {M : Type 1} → statement M
 clock-spec =
     tie.close
     (tie.spec
     returns
-    add-u
-    update-channel-requires
-    channel-count-requires
-    next-channel-requires
+    (λ c. search needs)  -- add-u
+    (λ c κs. search needs)  -- update-channel-requires
+    (λ c κs. search needs)  -- channel-count-requires
+    (λ c κs. search needs)  -- next-channel-requires
     returns-2
     returns-3)

@@ -6,9 +6,6 @@ use Rattle.sound.proofs.registers.Laws.{inside, before, past}
 use Rattle.sound.proofs.audio.Audio.peek_register.Statement.{statement}
 use Rattle.sound.proofs.audio.Audio.peek_register.Tie as tie
 
-element-copy-out-result : tie.Need-element-copy-out-result
-element-copy-out-result c = search needs
-
 returns : tie.Need-returns
 unfolding peeked
 returns c = rw (inside 0x4800 0x4FFF (c .before .before .before .args .addr) (omega arith) (omega arith))
@@ -22,4 +19,4 @@ unfolding peeked
 returns-3 c = rw (past 0x4800 0x4FFF (c .before .before .args .addr) (omega arith) (omega arith))
 
 pub peek-register-spec : {M : Type 1} → statement M
-peek-register-spec = tie.close (tie.spec element-copy-out-result returns returns-2 returns-3)
+peek-register-spec = tie.close (tie.spec (λ c. search needs) returns returns-2 returns-3)

@@ -4,15 +4,9 @@ use Rattle.sound.specs.Registers.{readOf}
 use Rattle.sound.proofs.audio.Audio.read_register.Statement.{statement}
 use Rattle.sound.proofs.audio.Audio.read_register.Tie as tie
 
-peek-register-requires : tie.Need-peek-register-requires
-peek-register-requires c κs = search needs
-
-advance-requires : tie.Need-advance-requires
-advance-requires c κs = search needs
-
 returns : tie.Need-returns
 unfolding readOf
 returns c = cc
 
 pub read-register-spec : {M : Type 1} → statement M
-read-register-spec = tie.close (tie.spec peek-register-requires advance-requires returns)
+read-register-spec = tie.close (tie.spec (λ c κs. search needs) (λ c κs. search needs) returns)

@@ -22,12 +22,15 @@ abbrev μ-loop : tie.MeasureT-loop
 
 -- the updates that are due have room
 room : (c : tie.After-struct-known Inv-loop μ-loop)
-    → (c .before .before .before .args .self .«update_counter» + c .before .before .before .args .n) / 15 ≤ length (c .before .before .before .args .samples .now)
+    → (c .before .before .before .args .self .«update_counter» + c .before .before .before .args .n) / 15 ≤ length
+    (c .before .before .before .args .samples .now)
 room c =
-    let s = c .before .before .before in
+    let c1 = c .before in let c3 = c1 .before .before in
+    let s = c3 in
     let a = s .args .self in
     let n = s .args .n in
-    let e : length (samplesOf n a) ≡ (a .«update_counter» + n) / 15 = ap length (samples-on n a (c .before .if1 .left) (s .pre .0 .counter)) ∙ length-outputs _ a in
+    let e : length (samplesOf n a) ≡ (a .«update_counter» + n) / 15 = ap length
+    (samples-on n a (c1 .if1 .left) (s .pre .0 .counter)) ∙ length-outputs _ a in
     omega (arith, s .pre .1)
 
 returns : tie.Need-returns Inv-loop μ-loop
@@ -43,86 +46,39 @@ cast-total c = omega arith
 add-total : tie.Need-add-total Inv-loop μ-loop
 add-total c = omega arith
 
-channel-count-requires : tie.Need-channel-count-requires Inv-loop μ-loop
-channel-count-requires c κs = search needs
-
-sum-requires : tie.Need-sum-requires Inv-loop μ-loop
-sum-requires c κs = search needs
-
 loop-holds : tie.Need-loop-holds Inv-loop μ-loop
 loop-holds c =
-    let s = c .before .before .before .before .before .before .before .before .before in
-    going-none _ _ _ _ _ (typed _ _ (s .good .0)) (s .pre .0) (c .before .before .before .channel-count .ensures .0) (c .sum .ensures)
-
-cast-k : tie.Need-cast-k Inv-loop μ-loop
-cast-k c = search needs
-
-base-addr-requires : tie.Need-base-addr-requires Inv-loop μ-loop
-base-addr-requires c κs = search needs
-
-mul-last : tie.Need-mul-last Inv-loop μ-loop
-mul-last c = search needs
-
-element-copy-out-last : tie.Need-element-copy-out-last Inv-loop μ-loop
-element-copy-out-last c = search needs
+    let c3 = c .before .before .before in let c9 = c3 .before .before .before .before .before .before in
+    let s = c9 in
+    going-none _ _ _ _ _ (typed _ _ (s .good .0)) (s .pre .0) (c3 .channel-count .ensures .0) (c .sum .ensures)
 
 next-phase-requires : tie.Need-next-phase-requires Inv-loop μ-loop
 next-phase-requires c κs = (search needs, c .before .before .before .before .before .loop .inv .range .phases _)
-
-level-at-requires : tie.Need-level-at-requires Inv-loop μ-loop
-level-at-requires c κs = search needs
-
-int-to-float-level : tie.Need-int-to-float-level Inv-loop μ-loop
-int-to-float-level c = search needs
-
-mul-old : tie.Need-mul-old Inv-loop μ-loop
-mul-old c = search needs
-
-element-copy-out-old : tie.Need-element-copy-out-old Inv-loop μ-loop
-element-copy-out-old c = search needs
-
-mul-audio : tie.Need-mul-audio Inv-loop μ-loop
-mul-audio c = search needs
-
-element-write-audio : tie.Need-element-write-audio Inv-loop μ-loop
-element-write-audio c = search needs
-
-resum-requires : tie.Need-resum-requires Inv-loop μ-loop
-resum-requires c κs = search needs
-
-mean-requires : tie.Need-mean-requires Inv-loop μ-loop
-mean-requires c κs = search needs
-
-mul-audio-2 : tie.Need-mul-audio-2 Inv-loop μ-loop
-mul-audio-2 c = search needs
-
-element-write-audio-2 : tie.Need-element-write-audio-2 Inv-loop μ-loop
-element-write-audio-2 c = search needs
-
-next-channel-requires : tie.Need-next-channel-requires Inv-loop μ-loop
-next-channel-requires c κs = search needs
-
-output-requires : tie.Need-output-requires Inv-loop μ-loop
-output-requires c κs = search needs
 
 -- so the place of a sample is in the buffer
 place : (c : tie.After-output Inv-loop μ-loop)
     → let h = c .before .before .before .before .before .before .before .before .before .before .before .before .before .before .before in h .loop .i < length (h .before .before .before .before .before .before .before .before .before .before .args .samples .now)
 place c =
-    let h = c .before .before .before .before .before .before .before .before .before .before .before .before .before .before .before in
-    omega (arith, room (h .before .before .before .before .before .before .before), c .before .before .before .before .before .before .before .before .before .before .before .before .before .before .loop-test .taken, h .loop .inv .within)
+    let c14 = c .before .before .before .before .before .before .before .before .before .before .before .before .before .before in
+    let c15 = c14 .before in
+    let h = c15 in
+    omega (arith, room (h .before .before .before .before .before .before .before), c14 .loop-test .taken, h .loop .inv .within)
 
 mul-samples : tie.Need-mul-samples Inv-loop μ-loop
 mul-samples c = omega (arith, place c)
 
 slice-write-samples : tie.Need-slice-write-samples Inv-loop μ-loop
-slice-write-samples c = omega (arith, place c, c .before .before .before .before .before .before .before .before .before .before .before .before .before .before .before .loop .inv .same)
+slice-write-samples c =
+    let c15 = c .before .before .before .before .before .before .before .before .before .before .before .before .before .before .before in
+    omega (arith, place c, c15 .loop .inv .same)
 
 add-i : tie.Need-add-i Inv-loop μ-loop
 add-i c = omega (arith, place c)
 
 loop-less : tie.Need-loop-less Inv-loop μ-loop
-loop-less c = omega (arith, c .before .before .before .before .before .before .before .before .before .before .before .before .before .before .loop-test .taken)
+loop-less c =
+    let c14 = c .before .before .before .before .before .before .before .before .before .before .before .before .before .before in
+    omega (arith, c14 .loop-test .taken)
 
 loop-again : tie.Need-loop-again Inv-loop μ-loop
 loop-again c =
@@ -134,8 +90,10 @@ loop-again c =
     let base = phase .before .before .before .before in
     let turn = base .before in
     let h = turn .before in
-    going-parts _ _ _ _ _ (h .loop .audio) _ (h .loop .i) (h .loop .inv) (turn .loop-test .taken) (room (h .before .before .before .before .before .before .before)) _ _ _ _ _ _ _
-    (base .base-addr .ensures .0) (phase .next-phase .ensures .0) (level .level-at .ensures) (sum .resum .ensures) (mean .mean .ensures)
+    going-parts _ _ _ _ _ (h .loop .audio) _ (h .loop .i) (h .loop .inv) (turn .loop-test .taken)
+    (room (h .before .before .before .before .before .before .before)) _ _ _ _ _ _ _
+    (base .base-addr .ensures .0) (phase .next-phase .ensures .0) (level .level-at .ensures) (sum .resum .ensures)
+    (mean .mean .ensures)
     (next .next-channel .ensures .0) (c .output .ensures)
 
 cast-audio : tie.Need-cast-audio Inv-loop μ-loop
@@ -146,15 +104,19 @@ same-length c = c .before .loop .inv .same
 
 returns-2 : tie.Need-returns-2 Inv-loop μ-loop
 returns-2 c =
-    let s = c .before .before .before .before .before .before .before .before .before .before .before in
+    let c1 = c .before in let c9 = c1 .before .before .before .before .before .before .before .before in
+    let c11 = c9 .before .before in
+    let s = c11 in
     let a = s .args .self in
     let n = s .args .n in
     let u = a .«update_counter» in
-    let d = c .before .before .before .before .before .before .before .before .before .if1 .left in
+    let d = c9 .if1 .left in
     let e = samples-on n a d (s .pre .0 .counter) in
-    let g = going-end _ _ _ _ _ _ _ _ (c .before .loop .inv) (c .loop-test .left) in
-    let r = ap (λ (x : Audio). withCounter x ((u + n) % 15)) (g .0) ∙ sym (run-on n a d (s .pre .0 .counter)) in
-    ((r, (sym (ap length e ∙ length-outputs ((u + n) / 15) a), rw r (run-range n a (typed _ _ (s .good .0)) (s .pre .0)))), rw (e, length-outputs ((u + n) / 15) a) (g .1))
+    let g = going-end _ _ _ _ _ _ _ _ (c1 .loop .inv) (c .loop-test .left) in
+    let r = ap (λ (x : Audio). withCounter x ((u + n) % 15)) (g .0) ∙ sym (run-on n a d (s .pre .0 .counter)) in (
+      (r, (sym (ap length e ∙ length-outputs ((u + n) / 15) a), rw r (run-range n a (typed _ _ (s .good .0)) (s .pre .0)))),
+      rw (e, length-outputs ((u + n) / 15) a) (g .1),
+    )
 
 pub run-spec : {M : Type 1} → statement M
 run-spec =
@@ -165,26 +127,26 @@ run-spec =
     returns
     cast-total
     add-total
-    channel-count-requires
-    sum-requires
+    (λ c κs. search needs)  -- channel-count-requires
+    (λ c κs. search needs)  -- sum-requires
     loop-holds
-    cast-k
-    base-addr-requires
-    mul-last
-    element-copy-out-last
+    (λ c. search needs)  -- cast-k
+    (λ c κs. search needs)  -- base-addr-requires
+    (λ c. search needs)  -- mul-last
+    (λ c. search needs)  -- element-copy-out-last
     next-phase-requires
-    level-at-requires
-    int-to-float-level
-    mul-old
-    element-copy-out-old
-    mul-audio
-    element-write-audio
-    resum-requires
-    mean-requires
-    mul-audio-2
-    element-write-audio-2
-    next-channel-requires
-    output-requires
+    (λ c κs. search needs)  -- level-at-requires
+    (λ c. search needs)  -- int-to-float-level
+    (λ c. search needs)  -- mul-old
+    (λ c. search needs)  -- element-copy-out-old
+    (λ c. search needs)  -- mul-audio
+    (λ c. search needs)  -- element-write-audio
+    (λ c κs. search needs)  -- resum-requires
+    (λ c κs. search needs)  -- mean-requires
+    (λ c. search needs)  -- mul-audio-2
+    (λ c. search needs)  -- element-write-audio-2
+    (λ c κs. search needs)  -- next-channel-requires
+    (λ c κs. search needs)  -- output-requires
     mul-samples
     slice-write-samples
     add-i

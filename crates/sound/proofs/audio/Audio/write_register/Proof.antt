@@ -6,15 +6,6 @@ use Rattle.sound.proofs.registers.Laws.{inside, before, past}
 use Rattle.sound.proofs.audio.Audio.write_register.Statement.{statement}
 use Rattle.sound.proofs.audio.Audio.write_register.Tie as tie
 
-element-write-self : tie.Need-element-write-self
-element-write-self c = search needs
-
-advance-requires : tie.Need-advance-requires
-advance-requires c κs = search needs
-
-cast-self : tie.Need-cast-self
-cast-self c = search needs
-
 returns : tie.Need-returns
 unfolding written
 returns c =
@@ -30,8 +21,13 @@ returns-2 c =
 returns-3 : tie.Need-returns-3
 unfolding written
 returns-3 c =
-    let d = c .before .before .before .before .before .args .addr in
-    rw (past 0x4800 0x4FFF d (omega arith) (omega arith), past 0xE000 0xE7FF d (omega arith) (omega arith), inside 0xF800 0xFFFF d (omega arith) (omega arith))
+    let c5 = c .before .before .before .before .before in
+    let d = c5 .args .addr in
+    rw (
+      past 0x4800 0x4FFF d (omega arith) (omega arith),
+      past 0xE000 0xE7FF d (omega arith) (omega arith),
+      inside 0xF800 0xFFFF d (omega arith) (omega arith),
+    )
 
 returns-4 : tie.Need-returns-4
 unfolding written
@@ -43,21 +39,30 @@ returns-5 : tie.Need-returns-5
 unfolding written
 returns-5 c =
     let d = c .before .before .before .args .addr in
-    rw (past 0x4800 0x4FFF d (omega arith) (omega arith), before 0xE000 0xE7FF d (omega arith), before 0xF800 0xFFFF d (omega arith))
+    rw (
+      past 0x4800 0x4FFF d (omega arith) (omega arith),
+      before 0xE000 0xE7FF d (omega arith),
+      before 0xF800 0xFFFF d (omega arith),
+    )
 
 returns-6 : tie.Need-returns-6
 unfolding written
 returns-6 c =
-    let d = c .before .before .before .before .before .args .addr in
-    rw (past 0x4800 0x4FFF d (omega arith) (omega arith), past 0xE000 0xE7FF d (omega arith) (omega arith), before 0xF800 0xFFFF d (omega arith))
+    let c5 = c .before .before .before .before .before in
+    let d = c5 .args .addr in
+    rw (
+      past 0x4800 0x4FFF d (omega arith) (omega arith),
+      past 0xE000 0xE7FF d (omega arith) (omega arith),
+      before 0xF800 0xFFFF d (omega arith),
+    )
 
 pub write-register-spec : {M : Type 1} → statement M
 write-register-spec =
     tie.close
     (tie.spec
-    element-write-self
-    advance-requires
-    cast-self
+    (λ c. search needs)  -- element-write-self
+    (λ c κs. search needs)  -- advance-requires
+    (λ c. search needs)  -- cast-self
     returns
     returns-2
     returns-3
