@@ -1,5 +1,5 @@
 -- Clocks that rise at most once in a run.
-use Prim.Native.Nat.{ℕ, zero, suc, _+_, _≤_}
+use Prim.Native.Nat.{ℕ, zero, suc, _≤_}
 use mathlib.Core.Path.{_≡_, refl, sym, _∙_}
 use mathlib.Core.Bool.{Bool, true, false, cond}
 use mathlib.Core.List.{[], _∷_, _++_, append-nil}
@@ -17,8 +17,7 @@ true-false e = let z : _≡_ {A = ℕ} 0 1 = cc in absurd (omega arith)
 
 -- a clock after whose rises some fact holds that clocks keep and under which none is a rise
 module _ {State Sample : Type 0} (clock : State → Clocked State Sample) (Stopped : State → Type 0)
-    (risen : (s : State) → clock s .rise ≡ true → Stopped (clock s .state))
-    (stays : (s : State) → Stopped s → Stopped (clock s .state))
+    (risen : (s : State) → clock s .rise ≡ true → Stopped (clock s .state)) (stays : (s : State) → Stopped s → Stopped (clock s .state))
     (quiet : (s : State) → Stopped s → clock s .rise ≡ false) where
   none-or-stopped : (n : ℕ) (s : State)
       → let t = ticks clock n (start s) in (t .stretch .rises ≡ []) ⊎ ((length (t .stretch .rises) ≤ 1) × Stopped (t .state))

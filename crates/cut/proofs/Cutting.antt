@@ -37,8 +37,7 @@ module _ {State Sample Arg Answer : Type 0} (paper : Paper State Sample Arg Answ
       go (paper .refusesRun m (length lent) (ticks (paper .clock) n (from s k) .state)) (machine-outline calls s k)
     where
       go : (q : ℕ)
-          → ((n : ℕ) → let t = machine paper calls (ticks (paper .clock) n (from s k)) in seen t ≡ byOutline
-          (outline (t .trace)) s k)
+          → ((n : ℕ) → let t = machine paper calls (ticks (paper .clock) n (from s k)) in seen t ≡ byOutline (outline (t .trace)) s k)
           → let t = machine paper calls (machineRun (paper .clock) q m (ticks (paper .clock) n (from s k))) in
           seen t ≡ byOutline (outline (t .trace)) s k
       go zero ih = rw (ticks-add (paper .clock) n m (from s k)) (ih (n + m))
@@ -74,8 +73,8 @@ module _ {State Sample Arg Answer : Type 0} (board : Board State Sample Arg Answ
   observed-as : (calls : List (Call Sample Arg)) → ((p : Point State Sample) → noted board calls p ≡ machine paper calls p)
       → (n : ℕ) (lent : List Sample) (p : Point State Sample) (q : ℕ) → paper .refusesRun n (length lent) (p .state) ≡ q
       → let g = runBy q (ticks (paper .clock) n (start (p .state))) lent (p .state) in
-      withRun (g .refusal) (noted board calls (afterRun (g .refusal) n g p)) ≡ withRun q
-      (machine paper calls (machineRun (paper .clock) q n p))
+      withRun (g .refusal) (noted board calls (afterRun (g .refusal) n g p))
+      ≡ withRun q (machine paper calls (machineRun (paper .clock) q n p))
   observed-as calls ih n lent p zero e = ap (withRun 0)
       (ap (noted board calls) (run-as n lent p 0 e) ∙ ih (machineRun (paper .clock) 0 n p))
   observed-as calls ih n lent p (suc q) e = ap (withRun (suc q)) (ih p)
@@ -83,8 +82,7 @@ module _ {State Sample Arg Answer : Type 0} (board : Board State Sample Arg Answ
   as-machine-from : (calls : List (Call Sample Arg)) (p : Point State Sample) → noted board calls p ≡ machine paper calls p
   unfolding noted machine
   as-machine-from [] p = refl
-  as-machine-from (run n lent ∷ calls) p = rw (keeps .run n lent (p .state))
-      (observed-as calls (as-machine-from calls) n lent p _ refl)
+  as-machine-from (run n lent ∷ calls) p = rw (keeps .run n lent (p .state)) (observed-as calls (as-machine-from calls) n lent p _ refl)
   as-machine-from (other a ∷ calls) p = rw (keeps .other a (p .state), as-machine-from calls)
 
   pub as-machine : AsMachine board paper
@@ -97,8 +95,8 @@ module _ {State Sample Arg Answer : Type 0} (board : Board State Sample Arg Answ
     ap (λ (w : Trace Sample Arg Answer × State). w .1) same,
   )
     where
-      by : (calls : List (Call Sample Arg)) → seen (observed board calls s) ≡ byOutline paper
-          (outline (observed board calls s .trace)) s 0
+      by : (calls : List (Call Sample Arg))
+          → seen (observed board calls s) ≡ byOutline paper (outline (observed board calls s .trace)) s 0
       by calls = rw (as-machine calls s) (machine-outline paper calls s 0 0)
 
       same : seen (observed board calls s) ≡ seen (observed board others s)

@@ -44,8 +44,8 @@ module _ {State Sample : Type 0} (clock : State → Clocked State Sample) (c : C
     line : c .line (p .state) ≡ up
     rises : p .stretch .rises ≡ rs
 
-  stays-clear : (m n : ℕ) (p : Point State Sample) {rs : List ℕ} → n + m < 0x7FFF → At (0x8000 + n) false rs p → At
-      (0x8000 + (n + m)) false rs (ticks clock m p)
+  stays-clear : (m n : ℕ) (p : Point State Sample) {rs : List ℕ} → n + m < 0x7FFF → At (0x8000 + n) false rs p
+      → At (0x8000 + (n + m)) false rs (ticks clock m p)
   unfolding ticks tick
   stays-clear zero n p h a = rw add-zero a
   stays-clear (suc m) n p h a =
@@ -174,8 +174,8 @@ module _ {State Sample Arg Answer : Type 0} (paper : Paper State Sample Arg Answ
 module _ {State Sample Arg Answer : Type 0} (board : Board State Sample Arg Answer) (paper : Paper State Sample Arg Answer)
     (keeps : Keeps board paper) (c : Counter (paper .clock)) where
   -- a call that leaves the counter and the line
-  kept : (a : Arg) (s : State) (x : ℕ) (up : Bool) (k : ℕ) (calls : List (Call Sample Arg)) → Untouched board (c .counter) (c .line)
-      (other a ∷ calls)
+  kept : (a : Arg) (s : State) (x : ℕ) (up : Bool) (k : ℕ) (calls : List (Call Sample Arg))
+      → Untouched board (c .counter) (c .line) (other a ∷ calls)
       → c .counter s ≡ x → c .line s ≡ up → At (paper .clock) c x up [] (from (otherOf paper a s .state) k)
   kept a s x up k calls u e f =
       record { counter = rw (← keeps .other a s) (u .0 s .0 ∙ e); line = rw (← keeps .other a s) (u .0 s .1 ∙ f); rises = refl }
@@ -186,14 +186,12 @@ module _ {State Sample Arg Answer : Type 0} (board : Board State Sample Arg Answ
       → (allRises (machine paper calls p .trace) ≡ rs) × (c .line (machine paper calls p .state) ≡ true)
   unfolding machine
   list-stays-up [] p a u = (a .rises, a .line)
-  list-stays-up (run n lent ∷ calls) p {rs} a u = go (paper .refusesRun n (length lent) (p .state))
-      (λ p a. list-stays-up calls p a u)
+  list-stays-up (run n lent ∷ calls) p {rs} a u = go (paper .refusesRun n (length lent) (p .state)) (λ p a. list-stays-up calls p a u)
     where
       go : (q : ℕ)
           → ((p : Point State Sample) → At (paper .clock) c 0xFFFF true rs p
           → (allRises (machine paper calls p .trace) ≡ rs) × (c .line (machine paper calls p .state) ≡ true))
-          → let t = machine paper calls (machineRun (paper .clock) q n p) in (allRises (t .trace) ≡ rs) ×
-          (c .line (t .state) ≡ true)
+          → let t = machine paper calls (machineRun (paper .clock) q n p) in (allRises (t .trace) ≡ rs) × (c .line (t .state) ≡ true)
       go zero ih = ih (ticks (paper .clock) n p) (stays-up (paper .clock) c n p a)
       go (suc q) ih = ih p a
   list-stays-up (other b ∷ calls) p a u =

@@ -27,8 +27,8 @@ unfolding counter
 demand-3 = demand-3-of board paper counter keeps
 
 -- "The list starts with an accepted load's state and zeroed arena": what a host observes of any list from there is what the plain machine does
-pub as-machine : (l : Loaded) (calls : List (Call Float Other)) → observed board calls (loaded l) ≡ machine paper calls
-    (start (zeroed l))
+pub as-machine : (l : Loaded) (calls : List (Call Float Other))
+    → observed board calls (loaded l) ≡ machine paper calls (start (zeroed l))
 as-machine l calls = rw (load-starts l) (demand-3 .as-machine calls (zeroed l))
 
 -- two lists with the same other calls and as many clocks in each stretch

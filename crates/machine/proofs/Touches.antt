@@ -1,5 +1,5 @@
 -- A call that neither writes the counter nor resets leaves the counter and the line.
-use Prim.Native.Nat.{ℕ, zero, suc, _-_, _≤_}
+use Prim.Native.Nat.{ℕ, zero, suc, _≤_}
 use mathlib.Core.Path.{_≡_, refl, ap, _∙_}
 use mathlib.Core.Bool.{Bool, true, false, cond, not, _&&_, _||_}
 use mathlib.Core.List.{List, [], _∷_}
@@ -51,8 +51,7 @@ slot n a v = refl
 
 nametable : (n : Namco163) (a v : ℕ) → part (writeNametable n a v) ≡ part n
 unfolding writeNametable part
-nametable n a v =
-    either (is175 (n .board)) _ _ (part n) refl (either (is163 (n .board)) (writeSlot n a v) n (part n) (slot n a v) refl)
+nametable n a v = either (is175 (n .board)) _ _ (part n) refl (either (is163 (n .board)) (writeSlot n a v) n (part n) (slot n a v) refl)
 
 c000 : (n : Namco163) (a v : ℕ) → part (writeC000 n a v) ≡ part n
 unfolding writeC000
@@ -158,7 +157,5 @@ pub untouched : (calls : List (Call Float Other)) → NoneTouches calls → Unto
 unfolding part
 untouched [] t = tt
 untouched (run n lent ∷ calls) t = untouched calls t
-untouched (other a ∷ calls) t = (
-  λ h. (ap (λ (p : ℕ × Bool). p .0) (leaves a h (t .0)), ap (λ (p : ℕ × Bool). p .1) (leaves a h (t .0))),
-  untouched calls (t .1),
-)
+untouched (other a ∷ calls) t =
+    (λ h. (ap (λ (p : ℕ × Bool). p .0) (leaves a h (t .0)), ap (λ (p : ℕ × Bool). p .1) (leaves a h (t .0))), untouched calls (t .1))

@@ -56,8 +56,7 @@ ranged-slots n (suc k) m q = ranged-slot (mapSlots n k m) k _ _ (ranged-slots n 
 ranged-table : (n : Namco163) (m : Memory) → Ranged m → Ranged (mapChrTable n m)
 unfolding mapChrTable
 ranged-table n m q =
-    ranged-cond (is163 (n .board)) _ _ (ranged-slots n 12 m q)
-    (ranged-mirroring (mapSlots n 8 m) (ranged-slots n 8 m q) (n .mirroring))
+    ranged-cond (is163 (n .board)) _ _ (ranged-slots n 12 m q) (ranged-mirroring (mapSlots n 8 m) (ranged-slots n 8 m q) (n .mirroring))
 
 -- a PRG-ROM bank in an 8 KiB window
 ranged-window : (m : Memory) (addr : ℕ) (b : ℤ) → Ranged m → Ranged (mapPrg m addr 8192 b PrgRom)

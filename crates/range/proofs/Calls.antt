@@ -98,8 +98,7 @@ mapped n m = record { ranged = update-banks-ranged n m; kept = update-banks-kept
 memory-range : (m k : Memory) → MemoryStays m k → MemoryInRange m → MemoryInRange k
 memory-range m k q h = record { ranged = q .ranged (h .ranged); used = rw (q .kept .used, q .kept .layout) (h .used) }
 
-pub state-kept : (s t : State) → Keeps (s .chip) (t .chip) → MemoryStays (s .memory) (t .memory) → Typed s → inRange s ≡ true
-    → Kept s t
+pub state-kept : (s t : State) → Keeps (s .chip) (t .chip) → MemoryStays (s .memory) (t .memory) → Typed s → inRange s ≡ true → Kept s t
 state-kept s t k q y e =
     let f = state-in s y e in
     let sound = k .sound (f .chip .audio) in
@@ -136,8 +135,8 @@ used-load : (mapper : ℕ) (sizes : MemoryLayout) → LoadFits mapper sizes
 unfolding memoryAtLoad newMemory setMirroring unmappedMemory layoutOf
 used-load mapper sizes h = go (eqb mapper 19) refl
   where
-    go : (t : Bool) → eqb mapper 19 ≡ t → (_≡_ {A = ℕ} (cond t 128 0) 0) ⊎
-        ((_≡_ {A = ℕ} (cond t 128 0) 128) × (1 ≤ (sizes .«battery_ext» + 1023) / 1024))
+    go : (t : Bool) → eqb mapper 19 ≡ t
+        → (_≡_ {A = ℕ} (cond t 128 0) 0) ⊎ ((_≡_ {A = ℕ} (cond t 128 0) 128) × (1 ≤ (sizes .«battery_ext» + 1023) / 1024))
     go true e = let r = h .reserve (eqb-true mapper 19 e) in inr (refl, omega arith)
     go false e = inl refl
 
@@ -147,13 +146,12 @@ zeros (suc n) zero = omega arith
 zeros (suc n) (suc i) = zeros n i
 
 -- a fresh load is in range, with an arena of zeros as long as its layout says
-pub load-fits : (mapper sub flags : ℕ) (known : Bool) (sizes : MemoryLayout) (arena : List ℕ) → Accepted
-    (loadChecks mapper sizes (length arena))
+pub load-fits : (mapper sub flags : ℕ) (known : Bool) (sizes : MemoryLayout) (arena : List ℕ)
+    → Accepted (loadChecks mapper sizes (length arena))
     → Fit (freshState mapper sub flags known sizes) (loadArena mapper sizes arena)
 unfolding freshState loadArena memoryAtLoad newMemory setMirroring unmappedMemory
 load-fits mapper sub flags known sizes arena e =
-    let h = accepted-none (loadChecks mapper sizes (length arena))
-    (omega arith, (omega arith, (omega arith, (omega arith, tt)))) e in
+    let h = accepted-none (loadChecks mapper sizes (length arena)) (omega arith, (omega arith, (omega arith, (omega arith, tt)))) e in
     let g = load-good mapper sizes (length arena) e .fits in
     let n = chipAtLoad mapper sub flags known in
     let f = load-fresh mapper sub flags known in
@@ -189,8 +187,8 @@ load-fits mapper sub flags known sizes arena e =
 
 -- ---- CPU read and write
 
-pub cpu-read-keeps : (s : State) (arena : List ℕ) (addr : ℕ) → Typed s → Accepted (cpuChecks s (length arena) addr) → Kept s
-    (cpuRead s arena addr .state)
+pub cpu-read-keeps : (s : State) (arena : List ℕ) (addr : ℕ) → Typed s → Accepted (cpuChecks s (length arena) addr)
+    → Kept s (cpuRead s arena addr .state)
 unfolding cpuRead
 cpu-read-keeps s arena addr y e =
     rw e (state-kept s (withChip s (afterRead (s .chip) addr)) (after-read-keeps (s .chip) addr) (stays (s .memory)) y
@@ -213,8 +211,8 @@ store-keeps : (arena : List ℕ) (at : Option ℕ) (v : ℕ) → v < 256 → Byt
 store-keeps arena none v h b = record { long = refl; bytes = b }
 store-keeps arena (some i) v h b = record { long = store-length arena (some i) v; bytes = below-set arena i v 256 b h }
 
-pub cpu-write-keeps : (s : State) (arena : List ℕ) (addr v : ℕ) → v < 256 → Typed s → Bytes arena → Accepted
-    (cpuChecks s (length arena) addr)
+pub cpu-write-keeps : (s : State) (arena : List ℕ) (addr v : ℕ) → v < 256 → Typed s → Bytes arena
+    → Accepted (cpuChecks s (length arena) addr)
     → Kept s (cpuWrite s arena addr v .state) × KeptArena arena (cpuWriteArena s arena addr v)
 unfolding cpuWrite cpuWriteArena
 cpu-write-keeps s arena addr v h y b e =
@@ -233,8 +231,8 @@ unfolding cpuWrite changes prgChanges answered
 cpu-write-mask s arena addr v =
     go (eqb (firstOf (cpuChecks s (length arena) addr)) 0) (writeRegister s addr v) (register-stays s addr v .kept .low)
   where
-    go : (a : Bool) (t : State) → ((i : ℕ) → i < 24 → getD (t .memory .«prg_pages») i unmapped ≡ getD
-        (s .memory .«prg_pages») i unmapped)
+    go : (a : Bool) (t : State)
+        → ((i : ℕ) → i < 24 → getD (t .memory .«prg_pages») i unmapped ≡ getD (s .memory .«prg_pages») i unmapped)
         → cond a (answered s t) (refusedWrite s (firstOf (cpuChecks s (length arena) addr))) .changed .prg .mask % 2 ^ 24 ≡ 0
     go true t h = mask-multiple 24 (s .memory .«prg_pages») (t .memory .«prg_pages») h
     go false t h = refl
@@ -246,8 +244,8 @@ pub chr-write-keeps : (s : State) (arena : List ℕ) (addr v : ℕ) → v < 256 
 unfolding chrWriteArena
 chr-write-keeps s arena addr v h b e = rw e (store-keeps arena (storedAt (chrEntry (s .memory) addr) addr) v h b)
 
-pub region-write-keeps : (s : State) (arena : List ℕ) (src : Src) (offset v : ℕ) → v < 256 → Bytes arena → Accepted
-    (arenaChecks s (length arena))
+pub region-write-keeps : (s : State) (arena : List ℕ) (src : Src) (offset v : ℕ) → v < 256 → Bytes arena
+    → Accepted (arenaChecks s (length arena))
     → KeptArena arena (regionWriteArena s arena src offset v)
 unfolding regionWriteArena
 region-write-keeps s arena src offset v h b e = rw e (store-keeps arena (wrappedAt (regionIn (s .memory) src) offset) v h b)
@@ -295,22 +293,22 @@ reset-keeps s kind y e =
     (state-kept s (withChip s (resetChip (s .chip) (kindOf kind))) (reset-chip-keeps (s .chip) (kindOf kind)) (stays (s .memory)) y
     (reset-good s kind e))
 
-pub sync-keeps : (s : State) (arena : List ℕ) → Typed s → Bytes arena → Accepted (batteryChecks s (length arena)) → KeptArena arena
-    (syncArena s arena)
+pub sync-keeps : (s : State) (arena : List ℕ) → Typed s → Bytes arena → Accepted (batteryChecks s (length arena))
+    → KeptArena arena (syncArena s arena)
 unfolding syncArena
 sync-keeps s arena y b e =
     let g = battery-good s (length arena) e in
     rw e (overlay-keeps arena (regionIn (s .memory) BatteryExt .start) (s .chip .audio .ram)
     (omega (arith, g .inside, y .audio .«ram-length»)) (y .audio .bytes) b)
 
-pub restore-keeps : (s : State) (arena : List ℕ) → Typed s → Bytes arena → Accepted (batteryChecks s (length arena)) → Kept s
-    (restoreState s arena .state)
+pub restore-keeps : (s : State) (arena : List ℕ) → Typed s → Bytes arena → Accepted (batteryChecks s (length arena))
+    → Kept s (restoreState s arena .state)
 unfolding restoreState
 restore-keeps s arena y b e =
     let g = battery-good s (length arena) e in
     let at = regionIn (s .memory) BatteryExt .start in
-    let long : length (batteryBytes s arena) ≡ 128 = length-take-le 128 (drop at arena)
-    (rw (length-drop at arena) (omega (arith, g .inside))) in
+    let long : length (batteryBytes s arena)
+    ≡ 128 = length-take-le 128 (drop at arena) (rw (length-drop at arena) (omega (arith, g .inside))) in
     rw e
     (state-kept s _
     (record {

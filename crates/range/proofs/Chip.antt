@@ -94,8 +94,7 @@ detect-keeps n v =
 -- ---- writes, range by range
 
 -- steps that change no field of these
-keeps-fields : (n m : Namco163) → m .«mapper_num» ≡ n .«mapper_num» → m .«prg_banks» ≡ n .«prg_banks» → m .audio ≡ n .audio
-    → Keeps n m
+keeps-fields : (n m : Namco163) → m .«mapper_num» ≡ n .«mapper_num» → m .«prg_banks» ≡ n .«prg_banks» → m .audio ≡ n .audio → Keeps n m
 keeps-fields n m p b a =
     record { mapper = p; banks = λ i h. rw b h; three = rw b; sound = λ r. rw a r; typed = λ t. rw a t }
 
@@ -219,5 +218,4 @@ pub record Fresh (mapper : ℕ) (n : Namco163) : Type 0 where
 
 pub load-fresh : (mapper sub flags : ℕ) (known : Bool) → Fresh mapper (chipAtLoad mapper sub flags known)
 unfolding chipAtLoad
-load-fresh mapper sub flags known =
-    record { number = refl; banks = no-banks 3; three = refl; sound = fresh-range; typed = fresh-typed }
+load-fresh mapper sub flags known = record { number = refl; banks = no-banks 3; three = refl; sound = fresh-range; typed = fresh-typed }

@@ -19,8 +19,8 @@ use Rattle.refusals.proofs.Laws.{Numbered, NoneHolds, accepted-none, none-accep
 
 pub record Decided (cs : List Check) : Type 0 where
   pub accepted : (firstOf cs ≡ 0) ↔ NoneHolds cs
-  pub refused : (before after : List Check) (c : Check) → cs ≡ before ++ c ∷ after → (firstOf cs ≡ c .number) ↔
-      (NoneHolds before × (c .holds ≡ true))
+  pub refused : (before after : List Check) (c : Check) → cs ≡ before ++ c ∷ after
+      → (firstOf cs ≡ c .number) ↔ (NoneHolds before × (c .holds ≡ true))
 
 -- ---- numbers that rise
 
@@ -48,22 +48,20 @@ first-above k (c ∷ cs) r = go (c .holds) (first-above (c .number) cs (r .1))
     go false (inl e) = inl e
     go false (inr l) = inr (omega (arith, r .0, l))
 
-first-is : (k : ℕ) (before after : List Check) (c : Check) → Rising k (before ++ c ∷ after) → firstOf (before ++ c ∷ after)
-    ≡ c .number
+first-is : (k : ℕ) (before after : List Check) (c : Check) → Rising k (before ++ c ∷ after) → firstOf (before ++ c ∷ after) ≡ c .number
     → NoneHolds before × (c .holds ≡ true)
 unfolding firstOf
 first-is k [] after c r e = (tt, go (c .holds) refl (first-above (c .number) after (r .1)) e)
   where
-    go : (t : Bool) → c .holds ≡ t → (firstOf after ≡ 0) ⊎ (c .number < firstOf after) → cond t (c .number) (firstOf after)
-        ≡ c .number → c .holds ≡ true
+    go : (t : Bool) → c .holds ≡ t → (firstOf after ≡ 0) ⊎ (c .number < firstOf after) → cond t (c .number) (firstOf after) ≡ c .number
+        → c .holds ≡ true
     go true q a e = q
     go false q (inl z) e = absurd (omega (arith, r .0, z, e))
     go false q (inr l) e = absurd (omega (arith, l, e))
 first-is k (b ∷ before) after c r e = go (b .holds) refl (first-is (b .number) before after c (r .1)) e
   where
     go : (t : Bool) → b .holds ≡ t → (firstOf (before ++ c ∷ after) ≡ c .number → NoneHolds before × (c .holds ≡ true))
-        → cond t (b .number) (firstOf (before ++ c ∷ after)) ≡ c .number → ((b .holds ≡ false) × NoneHolds before) ×
-        (c .holds ≡ true)
+        → cond t (b .number) (firstOf (before ++ c ∷ after)) ≡ c .number → ((b .holds ≡ false) × NoneHolds before) × (c .holds ≡ true)
     go true q ih e = absurd (omega (arith, rising-later (b .number) before after c (r .1), e))
     go false q ih e = let h = ih e in ((q, h .0), h .1)
 
@@ -74,8 +72,8 @@ decided cs r =
       refused = λ before after c e. by before after c e;
     }
   where
-    by : (before after : List Check) (c : Check) → cs ≡ before ++ c ∷ after → (firstOf cs ≡ c .number) ↔
-        (NoneHolds before × (c .holds ≡ true))
+    by : (before after : List Check) (c : Check) → cs ≡ before ++ c ∷ after
+        → (firstOf cs ≡ c .number) ↔ (NoneHolds before × (c .holds ≡ true))
     by before after c e = rw e (first-is 0 before after c (rw e at r), (λ h. refused-first before after c (h .0) (h .1)))
 
 -- ---- the checks of each call
@@ -115,25 +113,24 @@ pub arena-accepts : (s : State) (len : ℕ) → inRange s ≡ true → len ≡ a
 unfolding firstOf
 arena-accepts s len r l = rw (r, eq-eqb len (arenaLen (s .memory .layout)) l)
 
-pub cpu-accepts : (s : State) (len addr : ℕ) → inRange s ≡ true → len ≡ arenaLen (s .memory .layout) → 0x4800 ≤ addr → firstOf
-    (cpuChecks s len addr) ≡ 0
+pub cpu-accepts : (s : State) (len addr : ℕ) → inRange s ≡ true → len ≡ arenaLen (s .memory .layout) → 0x4800 ≤ addr
+    → firstOf (cpuChecks s len addr) ≡ 0
 unfolding firstOf
 cpu-accepts s len addr r l h = rw (r, eq-eqb len (arenaLen (s .memory .layout)) l, le-ltb addr 0x4800 h)
 
-pub fill-accepts : (s : State) (len : ℕ) (src : Src) (n : ℕ) → inRange s ≡ true → len ≡ arenaLen (s .memory .layout) → n ≤ regionIn
-    (s .memory) src .len
+pub fill-accepts : (s : State) (len : ℕ) (src : Src) (n : ℕ) → inRange s ≡ true → len ≡ arenaLen (s .memory .layout)
+    → n ≤ regionIn (s .memory) src .len
     → firstOf (fillChecks s len src n) ≡ 0
 unfolding firstOf
 fill-accepts s len src n r l h = rw (r, eq-eqb len (arenaLen (s .memory .layout)) l, le-ltb (regionIn (s .memory) src .len) n h)
 
-pub battery-accepts : (s : State) (len : ℕ) → inRange s ≡ true → len ≡ arenaLen (s .memory .layout) → s .memory .«battery_ext_len»
-    ≡ 128
+pub battery-accepts : (s : State) (len : ℕ) → inRange s ≡ true → len ≡ arenaLen (s .memory .layout) → s .memory .«battery_ext_len» ≡ 128
     → firstOf (batteryChecks s len) ≡ 0
 unfolding firstOf
 battery-accepts s len r l u = rw (r, eq-eqb len (arenaLen (s .memory .layout)) l, u)
 
-pub load-accepts : (mapper : ℕ) (sizes : MemoryLayout) (len : ℕ) → (mapper ≡ 19) ⊎ (mapper ≡ 210) → LoadFits mapper sizes → len
-    ≡ arenaLen (layoutOf sizes)
+pub load-accepts : (mapper : ℕ) (sizes : MemoryLayout) (len : ℕ) → (mapper ≡ 19) ⊎ (mapper ≡ 210) → LoadFits mapper sizes
+    → len ≡ arenaLen (layoutOf sizes)
     → firstOf (loadChecks mapper sizes len) ≡ 0
 unfolding firstOf
 load-accepts mapper sizes len (inl e) f l =

@@ -31,8 +31,7 @@ use Rattle.image_read.specs.Typed.{Bytes, Typed}
 use Rattle.range.proofs.Decided.{Decided, decided}
 use Rattle.range.proofs.Types.{typed-state}
 
-bytes-fit : (xs : List ℕ) (us : List Val) → shadow (each (u8-field .row .Denot) (u8-field .row .own) (map (λ v. v) xs) us)
-    → Bytes xs
+bytes-fit : (xs : List ℕ) (us : List Val) → shadow (each (u8-field .row .Denot) (u8-field .row .own) (map (λ v. v) xs) us) → Bytes xs
 bytes-fit [] us s i = omega arith
 bytes-fit (x ∷ xs) [] s i = absurd s
 bytes-fit (x ∷ xs) (u ∷ us) s zero = s .0 .1
@@ -41,8 +40,8 @@ bytes-fit (x ∷ xs) (u ∷ us) s (suc i) = bytes-fit xs us (s .1) i
 abbrev page-field : Field
 page-field = field PageRow.the-type
 
-words-fit : (ps : List Page) (us : List Val) → shadow
-    (each (page-field .row .Denot) (page-field .row .own) (map (page-field .into) ps) us)
+words-fit : (ps : List Page) (us : List Val)
+    → shadow (each (page-field .row .Denot) (page-field .row .own) (map (page-field .into) ps) us)
     → (i : ℕ) → getD ps i unmapped .0 < 2 ^ 32
 words-fit [] us s i = omega arith
 words-fit (p ∷ ps) [] s i = absurd s
@@ -81,8 +80,8 @@ owned-typed s vs is =
     }
 
 -- "Reading what a state in range was written to gives that state": every state that a call owns
-pub owned-read-written : (s : State) (vs : List Val) → Is Row.the-row s vs → inRange s ≡ true → readImage (imageOf s)
-    ≡ record { refusal = 0; state = s }
+pub owned-read-written : (s : State) (vs : List Val) → Is Row.the-row s vs → inRange s ≡ true
+    → readImage (imageOf s) ≡ record { refusal = 0; state = s }
 owned-read-written s vs is e = read-written s (owned-typed s vs is) e
 
 -- ---- what is refused
@@ -94,8 +93,8 @@ read-decided : (img : List ℕ) → Decided (readChecks img)
 read-decided img = decided _ (omega arith, (omega arith, tt))
 
 -- "1. An image, to read or to write, is not 307 bytes."
-pub refused-1 : (len : ℕ) (rest : List Check) → Decided (imageCheck len ∷ rest) → (firstOf (imageCheck len ∷ rest) ≡ 1) ↔
-    (len ≡ 307 → ⊥)
+pub refused-1 : (len : ℕ) (rest : List Check) → Decided (imageCheck len ∷ rest)
+    → (firstOf (imageCheck len ∷ rest) ≡ 1) ↔ (len ≡ 307 → ⊥)
 refused-1 len rest d =
     let r = d .refused [] rest (imageCheck len) refl in
     ((λ e. eqb-false len 307 (was-false (eqb len 307) (r .0 e .1))), (λ h. r .1 (tt, rw (ne-eqb len 307 h))))

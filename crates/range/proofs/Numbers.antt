@@ -25,8 +25,8 @@ fails : (b : Bool) → b ≡ false → not b ≡ true
 fails b h = rw h
 
 -- "2. A state or image field is out of range.": in every call that takes a state
-pub refused-2 : (s : State) (rest : List Check) → Decided (stateCheck s ∷ rest) → (firstOf (stateCheck s ∷ rest) ≡ 2) ↔
-    (inRange s ≡ false)
+pub refused-2 : (s : State) (rest : List Check) → Decided (stateCheck s ∷ rest)
+    → (firstOf (stateCheck s ∷ rest) ≡ 2) ↔ (inRange s ≡ false)
 refused-2 s rest d =
     let r = d .refused [] rest (stateCheck s) refl in
     ((λ e. was-false (inRange s) (r .0 e .1)), (λ h. r .1 (tt, rw h)))
@@ -40,12 +40,10 @@ refused-3 s kind =
     )
 
 -- "4. A load names a mapper other than 19 or 210."
-pub refused-4 : (mapper : ℕ) (sizes : MemoryLayout) (len : ℕ) → (firstOf (loadChecks mapper sizes len) ≡ 4) ↔
-    (mapperOk mapper ≡ false)
+pub refused-4 : (mapper : ℕ) (sizes : MemoryLayout) (len : ℕ) → (firstOf (loadChecks mapper sizes len) ≡ 4) ↔ (mapperOk mapper ≡ false)
 refused-4 mapper sizes len =
     let r = load-decided mapper sizes len .refused []
-    (sizesCheck sizes ∷ reserveCheck mapper sizes ∷ arenaCheck (arenaLen (layoutOf sizes)) len ∷ [])
-    (mapperCheck mapper) refl in
+    (sizesCheck sizes ∷ reserveCheck mapper sizes ∷ arenaCheck (arenaLen (layoutOf sizes)) len ∷ []) (mapperCheck mapper) refl in
     ((λ e. was-false (mapperOk mapper) (r .0 e .1)), (λ h. r .1 (tt, fails (mapperOk mapper) h)))
 
 -- "5. A layout size is above its limit."
@@ -79,10 +77,10 @@ refused-6 mapper sizes len =
     )
 
 -- "7. The arena's length is not the layout's.": in every call that takes state and arena
-pub refused-7 : (s : State) (len : ℕ) (rest : List Check) → Decided
-    (stateCheck s ∷ arenaCheck (arenaLen (s .memory .layout)) len ∷ rest)
-    → (firstOf (stateCheck s ∷ arenaCheck (arenaLen (s .memory .layout)) len ∷ rest) ≡ 7) ↔
-    ((inRange s ≡ true) × (len ≡ arenaLen (s .memory .layout) → ⊥))
+pub refused-7 : (s : State) (len : ℕ) (rest : List Check)
+    → Decided (stateCheck s ∷ arenaCheck (arenaLen (s .memory .layout)) len ∷ rest)
+    → (firstOf (stateCheck s ∷ arenaCheck (arenaLen (s .memory .layout)) len ∷ rest) ≡ 7)
+    ↔ ((inRange s ≡ true) × (len ≡ arenaLen (s .memory .layout) → ⊥))
 refused-7 s len rest d =
     let long = arenaLen (s .memory .layout) in
     let r = d .refused (stateCheck s ∷ []) rest (arenaCheck long len) refl in (
@@ -93,8 +91,8 @@ refused-7 s len rest d =
 -- and in a load
 pub load-refused-7 : (mapper : ℕ) (sizes : MemoryLayout) (len : ℕ)
     → (firstOf (loadChecks mapper sizes len) ≡ 7)
-    ↔ (((mapperOk mapper ≡ true) × ((withinLimits sizes ≡ true) × (eqb mapper 19 && eqb (sizes .«battery_ext») 0 ≡ false))) ×
-    (len ≡ arenaLen (layoutOf sizes) → ⊥))
+    ↔ (((mapperOk mapper ≡ true) × ((withinLimits sizes ≡ true) × (eqb mapper 19 && eqb (sizes .«battery_ext») 0 ≡ false)))
+    × (len ≡ arenaLen (layoutOf sizes) → ⊥))
 load-refused-7 mapper sizes len =
     let long = arenaLen (layoutOf sizes) in
     let r = load-decided mapper sizes len .refused (mapperCheck mapper ∷ sizesCheck sizes ∷ reserveCheck mapper sizes ∷ []) []

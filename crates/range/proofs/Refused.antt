@@ -40,8 +40,7 @@ number f q a r ea er = go (eqb q 0) refl
 pub load-number : (mapper sub flags : ℕ) (known : Bool) (sizes : MemoryLayout) (len : ℕ)
     → loadAnswer mapper sub flags known sizes len .refusal ≡ firstOf (loadChecks mapper sizes len)
 unfolding loadAnswer
-load-number mapper sub flags known sizes len =
-    number (λ (x : Loaded). x .refusal) (firstOf (loadChecks mapper sizes len)) _ _ refl refl
+load-number mapper sub flags known sizes len = number (λ (x : Loaded). x .refusal) (firstOf (loadChecks mapper sizes len)) _ _ refl refl
 
 module _ (s : State) (arena : List ℕ) (addr : ℕ) where
   pub cpu-read-number : cpuRead s arena addr .refusal ≡ firstOf (cpuChecks s (length arena) addr)
@@ -60,8 +59,8 @@ module _ (s : State) (arena : List ℕ) (addr : ℕ) where
   unfolding chrRead
   chr-read-number = number (λ (x : Peeked). x .refusal) (firstOf (arenaChecks s (length arena))) _ _ refl refl
 
-pub region-peek-number : (s : State) (arena : List ℕ) (src : Src) (offset : ℕ) → regionRead s arena src offset .refusal ≡ firstOf
-    (arenaChecks s (length arena))
+pub region-peek-number : (s : State) (arena : List ℕ) (src : Src) (offset : ℕ)
+    → regionRead s arena src offset .refusal ≡ firstOf (arenaChecks s (length arena))
 unfolding regionRead
 region-peek-number s arena src offset = number (λ (x : Peeked). x .refusal) (firstOf (arenaChecks s (length arena))) _ _ refl refl
 
@@ -84,8 +83,8 @@ pub no-state-out : inRange noState ≡ false
 unfolding inRange chipOk noState
 no-state-out = refl
 
-pub load-refused : (mapper sub flags : ℕ) (known : Bool) (sizes : MemoryLayout) (arena : List ℕ) → Refused
-    (loadChecks mapper sizes (length arena))
+pub load-refused : (mapper sub flags : ℕ) (known : Bool) (sizes : MemoryLayout) (arena : List ℕ)
+    → Refused (loadChecks mapper sizes (length arena))
     → (loadAnswer mapper sub flags known sizes (length arena) .state ≡ noState) × (loadArena mapper sizes arena ≡ arena)
 unfolding loadAnswer loadArena
 load-refused mapper sub flags known sizes arena h = (rw (ne-eqb _ 0 h), rw (ne-eqb _ 0 h))
@@ -99,8 +98,8 @@ module _ (s : State) (arena : List ℕ) (addr : ℕ) (h : Refused (cpuChecks s (
   unfolding cpuPeek
   cpu-peek-refused = rw (ne-eqb _ 0 h)
 
-  pub cpu-write-refused : (v : ℕ) → (cpuWrite s arena addr v ≡ refusedWrite s (firstOf (cpuChecks s (length arena) addr))) ×
-      (cpuWriteArena s arena addr v ≡ arena)
+  pub cpu-write-refused : (v : ℕ)
+      → (cpuWrite s arena addr v ≡ refusedWrite s (firstOf (cpuChecks s (length arena) addr))) × (cpuWriteArena s arena addr v ≡ arena)
   unfolding cpuWrite cpuWriteArena
   cpu-write-refused v = (rw (ne-eqb _ 0 h), rw (ne-eqb _ 0 h))
 
@@ -113,8 +112,8 @@ module _ (s : State) (arena : List ℕ) (h : Refused (arenaChecks s (length aren
   unfolding chrWriteArena
   chr-write-refused addr v = rw (ne-eqb _ 0 h)
 
-  pub region-peek-refused : (src : Src) (offset : ℕ) → regionRead s arena src offset
-      ≡ record { refusal = firstOf (arenaChecks s (length arena)); byte = 0 }
+  pub region-peek-refused : (src : Src) (offset : ℕ)
+      → regionRead s arena src offset ≡ record { refusal = firstOf (arenaChecks s (length arena)); byte = 0 }
   unfolding regionRead
   region-peek-refused src offset = rw (ne-eqb _ 0 h)
 
@@ -122,19 +121,18 @@ module _ (s : State) (arena : List ℕ) (h : Refused (arenaChecks s (length aren
   unfolding regionWriteArena
   region-write-refused src offset v = rw (ne-eqb _ 0 h)
 
-pub fill-refused : (s : State) (arena : List ℕ) (src : Src) (bytes : List ℕ) → Refused
-    (fillChecks s (length arena) src (length bytes))
+pub fill-refused : (s : State) (arena : List ℕ) (src : Src) (bytes : List ℕ) → Refused (fillChecks s (length arena) src (length bytes))
     → fillArena s arena src bytes ≡ arena
 unfolding fillArena
 fill-refused s arena src bytes h = rw (ne-eqb _ 0 h)
 
-pub sram-refused : (s : State) → Refused (stateChecks s) → sramAnswer s
-    ≡ record { refusal = firstOf (stateChecks s); start = 0; len = 0 }
+pub sram-refused : (s : State) → Refused (stateChecks s)
+    → sramAnswer s ≡ record { refusal = firstOf (stateChecks s); start = 0; len = 0 }
 unfolding sramAnswer
 sram-refused s h = rw (ne-eqb _ 0 h)
 
-pub reset-refused : (s : State) (kind : ℕ) → Refused (resetChecks s kind) → resetState s kind
-    ≡ record { refusal = firstOf (resetChecks s kind); state = s }
+pub reset-refused : (s : State) (kind : ℕ) → Refused (resetChecks s kind)
+    → resetState s kind ≡ record { refusal = firstOf (resetChecks s kind); state = s }
 unfolding resetState
 reset-refused s kind h = rw (ne-eqb _ 0 h)
 

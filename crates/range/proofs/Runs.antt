@@ -40,8 +40,7 @@ chip-clock-keeps n t = go (is163 (n .board)) (withRegs n (clockCounter (n .regs)
   where
     go : (b : Bool) (m : Namco163) (x y : Option Float) (r : Bool)
         → Keeps n (withAudio m (soundClock (n .audio))) → Keeps n m
-        → Keeps n (cond {A = Clocked Namco163 Float} b
-        (record { state = withAudio m (soundClock (n .audio)); sample = x; rise = r })
+        → Keeps n (cond {A = Clocked Namco163 Float} b (record { state = withAudio m (soundClock (n .audio)); sample = x; rise = r })
         (record { state = m; sample = y; rise = r }) .state)
     go true m x y r p q = p
     go false m x y r p q = q
@@ -61,8 +60,8 @@ clocks-keep (suc n) s y e =
 pub run-decided : (s : State) (n room : ℕ) → Decided (runChecks s n room)
 run-decided s n room = decided _ (omega arith, (omega arith, (omega arith, tt)))
 
-pub run-keeps : (s : State) (n : ℕ) (lent : List Float) → Typed s → Accepted (runChecks s n (length lent)) → Kept s
-    (runGave s n lent .state)
+pub run-keeps : (s : State) (n : ℕ) (lent : List Float) → Typed s → Accepted (runChecks s n (length lent))
+    → Kept s (runGave s n lent .state)
 unfolding runGave
 run-keeps s n lent y e =
     let h = run-decided s n (length lent) .accepted .0 e in rw e (clocks-keep n s y (was-true (inRange s) (h .0)))
@@ -85,8 +84,8 @@ refused-10 s n room =
     )
 
 -- "11. The lent samples are fewer than the run makes"
-pub refused-11 : (s : State) (n room : ℕ) → (firstOf (runChecks s n room) ≡ 11) ↔
-    ((inRange s ≡ true) × ((n ≤ 65536) × (room < made n s)))
+pub refused-11 : (s : State) (n room : ℕ)
+    → (firstOf (runChecks s n room) ≡ 11) ↔ ((inRange s ≡ true) × ((n ≤ 65536) × (room < made n s)))
 refused-11 s n room =
     let r = run-decided s n room .refused (stateCheck s ∷ lengthCheck n ∷ []) [] (roomCheck s n room) refl in (
       (λ e. let h = r .0 e in (was-true (inRange s) (h .0 .0), (ltb-false 65536 n (h .0 .1 .0), ltb-true room (made n s) (h .1)))),

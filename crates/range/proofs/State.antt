@@ -75,11 +75,7 @@ in-state s h = both (chipOk (s .chip)) _ (in-chip (s .chip) (h .chip)) (in-memor
 pub state-in : (s : State) → Typed s → inRange s ≡ true → InRange s
 unfolding inRange
 state-in s t e =
-    record {
-      chip = chip-in s t (and-left (chipOk (s .chip)) _ e);
-      memory = memory-in (s .memory)
-          (and-right (chipOk (s .chip)) _ e);
-    }
+    record { chip = chip-in s t (and-left (chipOk (s .chip)) _ e); memory = memory-in (s .memory) (and-right (chipOk (s .chip)) _ e) }
 
 -- ---- channel outputs in range are f32 values
 

@@ -1,3 +1,9 @@
--- The board agrees with the wiki but for its departures.
+-- The board agrees with the wiki but for its departures: the counter (Counter), the registers of a 163 (Beside, Windows, Pages, Writes), work RAM and
+-- mirroring (WorkRam). docs/DIFFERENCES.md lists the departures.
+pub mod Tests
 pub mod Counter
-pub mod Wiki
+pub mod Beside
+pub mod Windows
+pub mod Pages
+pub mod Writes
+pub mod WorkRam
