@@ -15,7 +15,7 @@ use Rattle.chip.specs.declared.namco163.Board.{Board}
 use Rattle.chip.specs.declared.namco163.Board.the-variants.{Unknown, Namco163 as Is163, Namco175, Namco340}
 use Rattle.chip.specs.declared.namco163.Namco163.{Namco163}
 use Rattle.chip.specs.declared.reset.ResetKind.{ResetKind}
-use Rattle.chip.specs.Namco163.{is163, is175, is340, withBoard, withAudio, withWritten}
+use Rattle.chip.specs.Namco163.{is163, is175, is340, withBoard, withRegs, withAudio, withWritten, withProtect}
 use Rattle.chip.specs.Detection.{mayChange, maybeSetBoard}
 use Rattle.chip.specs.Load.{chipAtLoad}
 use Rattle.chip.specs.Reads.{afterRead}
@@ -53,6 +53,11 @@ keeps-cond false n a b p q = q
 
 -- ---- the fields
 
+-- steps that change no field of these
+keeps-fields : (n m : Namco163) → m .«mapper_num» ≡ n .«mapper_num» → m .«prg_banks» ≡ n .«prg_banks» → m .audio ≡ n .audio → Keeps n m
+keeps-fields n m p b a =
+    record { mapper = p; banks = λ i h. rw b h; three = rw b; sound = λ r. rw a r; typed = λ t. rw a t }
+
 -- the sound by a step of its own
 keeps-audio : (n : Namco163) (a : Audio) → (InRange (n .audio) → InRange a) → (Typed (n .audio) → Typed a) → Keeps n (withAudio n a)
 keeps-audio n a r t = record { mapper = refl; banks = λ i h. h; three = refl; sound = r; typed = t }
@@ -83,8 +88,7 @@ bank-keeps n k v =
 pub maybe-keeps : (n : Namco163) (b : Board) → Keeps n (maybeSetBoard n b)
 unfolding maybeSetBoard
 maybe-keeps n b =
-    keeps-cond (mayChange n) n (withBoard n b) n
-    (record { mapper = refl; banks = λ i h. h; three = refl; sound = λ r. r; typed = λ t. t }) (keeps-self n)
+    keeps-cond (mayChange n) n (withBoard n b) n (keeps-fields n (withBoard n b) refl refl refl) (keeps-self n)
 
 pub detect-keeps : (n : Namco163) (v : ℕ) → Keeps n (detectE000 n v)
 unfolding detectE000
@@ -92,11 +96,6 @@ detect-keeps n v =
     keeps-cond (bit7 v || (bit6 v && not (is163 (n .board)))) n (maybeSetBoard n Namco340) n (maybe-keeps n Namco340) (keeps-self n)
 
 -- ---- writes, range by range
-
--- steps that change no field of these
-keeps-fields : (n m : Namco163) → m .«mapper_num» ≡ n .«mapper_num» → m .«prg_banks» ≡ n .«prg_banks» → m .audio ≡ n .audio → Keeps n m
-keeps-fields n m p b a =
-    record { mapper = p; banks = λ i h. rw b h; three = rw b; sound = λ r. rw a r; typed = λ t. rw a t }
 
 pub sound-data-keeps : (n : Namco163) (a v : ℕ) → v < 256 → Keeps n (writeSoundData n a v)
 unfolding writeSoundData
@@ -161,16 +160,9 @@ pub f800-keeps : (n : Namco163) (a v : ℕ) → v < 256 → Keeps n (writeF800 n
 unfolding writeF800
 f800-keeps n a v h =
     let m = maybeSetBoard n Is163 in
+    let k = withRegs m (withProtect (m .regs) v) in
     keeps-cond (is163 (m .board)) n _ m
-    (keeps-both (maybe-keeps n Is163)
-    (record {
-      mapper = refl;
-      banks = λ i h. h;
-      three = refl;
-      sound = written-range (m .audio) a v;
-      typed = written-typed
-          (m .audio) a v h;
-    }))
+    (keeps-both (keeps-both (maybe-keeps n Is163) (keeps-fields m k refl refl refl)) (keeps-written k a v h))
     (maybe-keeps n Is163)
 
 -- the write whole, at every address

@@ -3,7 +3,7 @@
 use Prim.Native.Nat.{ℕ, _<_}
 use mathlib.Core.Path.{_≡_, refl}
 use mathlib.Core.Bool.{Bool, true, false, not, _&&_}
-use mathlib.Core.List.{List, [], _∷_}
+use mathlib.Core.List.{List, [], _∷_, _++_}
 use mathlib.Core.Logic.{_↔_}
 use borrow.Author.Tests.{eq-eqb, ne-eqb, eqb-true, eqb-false, lt-ltb, ltb-true}
 use lib.Dec.{eqb}
@@ -110,40 +110,32 @@ module _ (s : State) (len : ℕ) where
   abbrev Fits : Type 0
   Fits = (inRange s ≡ true) × (len ≡ arenaLen (s .memory .layout))
 
+  -- a check behind those of state and arena
+  behind : (c : Check) → Decided (arenaChecks s len ++ c ∷ [])
+      → (firstOf (arenaChecks s len ++ c ∷ []) ≡ c .number) ↔ (Fits × (c .holds ≡ true))
+  behind c d =
+      let long = arenaLen (s .memory .layout) in
+      let r = d .refused (arenaChecks s len) [] c refl in (
+        (λ e. let h = r .0 e in ((was-true (inRange s) (h .0 .0), eqb-true len long (was-true (eqb len long) (h .0 .1 .0))), h .1)),
+        (λ h. r .1 ((rw (h .0 .0), (rw (eq-eqb len long (h .0 .1)), tt)), h .1)),
+      )
+
   -- "8. A CPU address is below 4800."
   pub refused-8 : (addr : ℕ) → (firstOf (cpuChecks s len addr) ≡ 8) ↔ (Fits × (addr < 0x4800))
   refused-8 addr =
-      let long = arenaLen (s .memory .layout) in
-      let r = cpu-decided s len addr .refused (arenaChecks s len) [] (addressCheck addr) refl in (
-        (λ e. let h = r .0 e in (
-          (was-true (inRange s) (h .0 .0), eqb-true len long (was-true (eqb len long) (h .0 .1 .0))),
-          ltb-true addr 0x4800 (h .1),
-        )),
-        (λ h. r .1 ((rw (h .0 .0), (rw (eq-eqb len long (h .0 .1)), tt)), lt-ltb addr 0x4800 (h .1))),
-      )
+      let r = behind (addressCheck addr) (cpu-decided s len addr) in
+      ((λ e. (r .0 e .0, ltb-true addr 0x4800 (r .0 e .1))), (λ h. r .1 (h .0, lt-ltb addr 0x4800 (h .1))))
 
   -- "9. A fill is longer than its region."
   pub refused-9 : (src : Src) (n : ℕ) → (firstOf (fillChecks s len src n) ≡ 9) ↔ (Fits × (regionIn (s .memory) src .len < n))
   refused-9 src n =
-      let long = arenaLen (s .memory .layout) in
       let region = regionIn (s .memory) src .len in
-      let r = fill-decided s len src n .refused (arenaChecks s len) [] (fillCheck s src n) refl in (
-        (λ e. let h = r .0 e in (
-          (was-true (inRange s) (h .0 .0), eqb-true len long (was-true (eqb len long) (h .0 .1 .0))),
-          ltb-true region n (h .1),
-        )),
-        (λ h. r .1 ((rw (h .0 .0), (rw (eq-eqb len long (h .0 .1)), tt)), lt-ltb region n (h .1))),
-      )
+      let r = behind (fillCheck s src n) (fill-decided s len src n) in
+      ((λ e. (r .0 e .0, ltb-true region n (r .0 e .1))), (λ h. r .1 (h .0, lt-ltb region n (h .1))))
 
   -- "12. Battery sync or restore meets a used length of 0, where the Rust panics."
   pub refused-12 : (firstOf (batteryChecks s len) ≡ 12) ↔ (Fits × (s .memory .«battery_ext_len» ≡ 0))
   refused-12 =
-      let long = arenaLen (s .memory .layout) in
       let used = s .memory .«battery_ext_len» in
-      let r = battery-decided s len .refused (arenaChecks s len) [] (batteryCheck s) refl in (
-        (λ e. let h = r .0 e in (
-          (was-true (inRange s) (h .0 .0), eqb-true len long (was-true (eqb len long) (h .0 .1 .0))),
-          eqb-true used 0 (h .1),
-        )),
-        (λ h. r .1 ((rw (h .0 .0), (rw (eq-eqb len long (h .0 .1)), tt)), eq-eqb used 0 (h .1))),
-      )
+      let r = behind (batteryCheck s) (battery-decided s len) in
+      ((λ e. (r .0 e .0, eqb-true used 0 (r .0 e .1))), (λ h. r .1 (h .0, eq-eqb used 0 (h .1))))
