@@ -164,6 +164,48 @@ static void test_reset(void) {
     EQUAL(image[23], 0);
 }
 
+/* Sets PRG entries from `first` on to consecutive pages with the writable flag, as a lent image may have them. */
+static void lend_prg(unsigned first, unsigned page, unsigned count) {
+    unsigned k, b;
+    for (k = 0; k < count; k++) {
+        unsigned entry = (page + k) * 2 + 1, at = 1544 + 11 * (first + k);
+        for (b = 0; b < 11; b++) {
+            uint8_t mask = (uint8_t)(0x80 >> ((at + b) % 8));
+            if (entry >> (10 - b) & 1) image[(at + b) / 8] |= mask;
+            else image[(at + b) / 8] &= (uint8_t)~mask;
+        }
+    }
+}
+
+/* Images that no list of calls from a load makes: the store goes by the entries before the write, at every address; a rise with the line already up. */
+static void test_lent_states(void) {
+    EQUAL(load(19, 1, 32768, 128), 0);
+    lend_prg(56, 41, 8); /* PRG-RAM at E000 */
+    EQUAL(namco163_prg_entry(image, 0xE000).offset, 41 * 1024);
+    keep();
+    EQUAL(write_at(0xE000, 0x02), 0xFF0000FF00000000);
+    EQUAL(arena[41 * 1024], 0x02);
+    arena[41 * 1024] = 0;
+    CHECK(!memcmp(arena, arena_before, sizeof arena));
+    CHECK(namco163_prg_entry(image, 0xE000).offset == 25 * 1024 && namco163_prg_entry(image, 0xFC00).offset == 32 * 1024);
+    EQUAL(load(19, 1, 32768, 128), 0);
+    lend_prg(32, 1, 8); /* PRG-ROM at 8000, writable */
+    EQUAL(write_at(0x8000, 0x02), 0xFF00000100);
+    EQUAL(arena[1024], 0x02);
+    EQUAL(namco163_chr_entry(image, 0x0000).offset, 35 * 1024);
+    EQUAL(load(19, 1, 32768, 128), 0);
+    lend_prg(18, 41, 1); /* PRG-RAM at 4800 */
+    EQUAL(write_at(0x4800, 0x5A), 0);
+    CHECK(arena[41 * 1024] == 0x5A && image[23] == 0x5A);
+    EQUAL(namco163_prg_entry(image, 0x4800).offset, 41 * 1024);
+    EQUAL(load(19, 1, 32768, 128), 0);
+    image[0] = 0xFF;
+    image[1] = 0xF0;
+    image[2] |= 0x80; /* counter FFF0, the line up */
+    EQUAL(namco163_rise(run(100)), 15);
+    CHECK(image[0] == 0xFF && image[1] == 0xFF && image[2] & 0x80);
+}
+
 /* Refusals of a load, by 01's order: 1 4 5 6 7. */
 static void test_refused_loads(void) {
     keep();
@@ -214,6 +256,7 @@ int main(void) {
     test_answers();
     test_run();
     test_reset();
+    test_lent_states();
     test_refused_loads();
     test_refused_calls();
     if (failures) printf("%d of %d checks of the C calls failed\n", failures, checks);
