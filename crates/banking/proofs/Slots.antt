@@ -1,5 +1,5 @@
--- A slot is a step of the PPU's table alone.
-use Prim.Native.Nat.{ℕ, _+_, _≤_}
+-- A slot is a step of the PPU's table alone, and `map_slots` takes one slot after the other.
+use Prim.Native.Nat.{ℕ, _+_}
 use mathlib.Core.Path.{_≡_, refl, sym, ap, _∙_}
 use mathlib.Core.Bool.{Bool, true, false, cond}
 use mathlib.Core.List.{List}
@@ -15,6 +15,7 @@ use Rattle.memory.specs.Windows.{mapChr}
 use Rattle.chip.specs.declared.namco163.Namco163.{Namco163}
 use Rattle.banking.specs.Banking.{slotSrc, slotPages, mapSlot, mapSlots}
 
+-- a slot's step of the memory is its step of the table
 pub slot-alone : (m : Memory) (slot bank : ℕ) (ciram : Bool)
     → mapSlot m slot bank ciram ≡ withChrPages m (slotPages (regionIn m (slotSrc ciram)) slot bank (m .«chr_pages»))
 unfolding mapSlot mapChr slotPages
@@ -25,6 +26,7 @@ slot-alone m slot bank ciram = go (ltb slot 8) _ _
     go true low high = refl
     go false low high = refl
 
+-- the region that the code chose is that of the slot's source
 region-by : (m : Memory) (ciram : Bool) → cond ciram (regionIn m CiRam) (regionIn m Chr) ≡ regionIn m (slotSrc ciram)
 region-by m true = refl
 region-by m false = refl
@@ -32,8 +34,7 @@ region-by m false = refl
 -- one slot more
 pub slot-more : (n : Namco163) (k : ℕ) (m : Memory) (pages : List Page) (chr nametables r : Region)
     → chr ≡ regionIn m Chr → nametables ≡ regionIn m CiRam → r ≡ cond (getD (n .«nt_bank_enable») k false) nametables chr
-    → withChrPages m pages ≡ mapSlots n k m → withChrPages m (slotPages r k (getD (n .«chr_banks») k 0) pages) ≡ mapSlots n
-    (k + 1) m
+    → withChrPages m pages ≡ mapSlots n k m → withChrPages m (slotPages r k (getD (n .«chr_banks») k 0) pages) ≡ mapSlots n (k + 1) m
 unfolding mapSlots
 slot-more n k m pages chr nametables r c t e h =
     let bank = getD (n .«chr_banks») k 0 in
@@ -42,9 +43,3 @@ slot-more n k m pages chr nametables r c t e h =
     (ap (λ (x : Region). withChrPages m (slotPages x k bank pages)) (rw (e, c, t) (region-by m flag))
     ∙ sym (slot-alone (withChrPages m pages) k bank flag)
     ∙ ap (λ (x : Memory). mapSlot x k bank flag) h)
-
--- of two small regions, either is small
-pub region-small : (ciram : Bool) (chr nametables r : Region) → r ≡ cond ciram nametables chr → chr .start + chr .len ≤ 858112
-    → nametables .start + nametables .len ≤ 858112 → r .start + r .len ≤ 858112
-region-small true chr nametables r e a b = rw e b
-region-small false chr nametables r e a b = rw e a

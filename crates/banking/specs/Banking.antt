@@ -21,17 +21,17 @@ abbrev pub slotSrc : Bool → Src
 slotSrc true = CiRam
 slotSrc false = Chr
 
--- the PPU's table after a bank of a region is in the 1 KiB slot of 0000..2FFF; 3000..3FFF shows again what 2000..2FFF shows
-unfoldable pub slotPages : Region → ℕ → ℕ → List Page → List Page
-slotPages r slot bank pages =
-    let low = mapPages 16 r 1024 (pos bank) (slot * 1024 / 1024) pages in
-    cond (ltb slot 8) low (mapPages 16 r 1024 (pos bank) ((slot * 1024 + 0x1000) / 1024) low)
+-- where a 1 KiB slot of 0000..2FFF is shown, `show` being the mapping of a window: at its address, and if it is one of 2000..2FFF again in 3000..3FFF
+abbrev pub inSlot : {A : Type 0} → (ℕ → A → A) → ℕ → A → A
+inSlot show slot a = let low = show (slot * 1024) a in cond (ltb slot 8) low (show (slot * 1024 + 0x1000) low)
 
--- the same of a memory
+-- a bank in a slot, as steps of the memory
 unfoldable pub mapSlot : Memory → ℕ → ℕ → Bool → Memory
-mapSlot m slot bank ciram =
-    let low = mapChr m (slot * 1024) 1024 (pos bank) (slotSrc ciram) in
-    cond (ltb slot 8) low (mapChr low (slot * 1024 + 0x1000) 1024 (pos bank) (slotSrc ciram))
+mapSlot m slot bank ciram = inSlot (λ addr n. mapChr n addr 1024 (pos bank) (slotSrc ciram)) slot m
+
+-- the same as steps of the PPU's table alone, for the code, which hands on no more than the table: `slot-alone` says that it is `mapSlot`
+unfoldable pub slotPages : Region → ℕ → ℕ → List Page → List Page
+slotPages r slot bank = inSlot (λ addr. mapPages 16 r 1024 (pos bank) (addr / 1024)) slot
 
 -- the first k slots
 unfoldable pub mapSlots : Namco163 → ℕ → Memory → Memory
@@ -59,5 +59,6 @@ mapWorkRam n m =
     (setPrgWritable (mapPrg m 0x6000 8192 (pos 0) PrgRam) 0x6000 8192 (prgRamWritable (n .board) (n .regs .«prg_ram_protect»)))
     (unmapPrg m 0x6000 8192)
 
+-- `update_banks`
 unfoldable pub updateBanks : Namco163 → Memory → Memory
 updateBanks n m = mapWorkRam n (mapRom n (mapChrTable n m))

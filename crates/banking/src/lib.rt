@@ -27,7 +27,8 @@ fn slot_pages(pages: [Page; 16], region: Region, slot: u16, bank: u8) -> [Page; 
 
 // The region that a CHR slot shows.
 fn slot_region(ciram: bool, chr: Region, nametables: Region) -> Region
-    ensures { λ r. ⌜ r ≡ cond ciram nametables chr ⌝ }
+    requires { ⌜ (chr .start + chr .len ≤ 858112) × (nametables .start + nametables .len ≤ 858112) ⌝ }
+    ensures { λ r. ⌜ (r ≡ cond ciram nametables chr) × (r .start + r .len ≤ 858112) ⌝ }
 {
     if ciram {
         return nametables;
@@ -38,7 +39,7 @@ fn slot_region(ciram: bool, chr: Region, nametables: Region) -> Region
 // The first n slots.
 fn map_slots(chip: Namco163, m: Memory, n: u16) -> Memory
     requires { ⌜ (Sized m) × (n ≤ 12) ⌝ }
-    ensures { λ r. ⌜ r ≡ mapSlots chip n m ⌝ }
+    ensures { λ r. ⌜ (r ≡ mapSlots chip n m) × (Sized r) ⌝ }
 {
     let layout = m.layout;
     let chr = layout.region(m.battery_ext_len, Src::Chr);
@@ -60,7 +61,7 @@ fn map_slots(chip: Namco163, m: Memory, n: u16) -> Memory
 // On a 163 the nametables are slots like the others; elsewhere they come from the mirroring.
 fn map_chr_table(chip: Namco163, m: Memory) -> Memory
     requires { ⌜ Sized m ⌝ }
-    ensures { λ r. ⌜ r ≡ mapChrTable chip m ⌝ }
+    ensures { λ r. ⌜ (r ≡ mapChrTable chip m) × (Sized r) ⌝ }
 {
     let board = chip.board;
     if board.num() == 1 {
@@ -74,14 +75,14 @@ fn map_chr_table(chip: Namco163, m: Memory) -> Memory
 // A PRG-ROM bank in an 8 KiB window.
 fn map_bank(m: Memory, addr: u16, bank: u8) -> Memory
     requires { ⌜ Sized m ⌝ }
-    ensures { λ r. ⌜ r ≡ mapBank m addr bank ⌝ }
+    ensures { λ r. ⌜ (r ≡ mapBank m addr bank) × (Sized r) ⌝ }
 {
     m.map_prg(addr, Memory::PRG_WINDOW, bank as i32, Src::PrgRom)
 }
 
 fn map_rom(chip: Namco163, m: Memory) -> Memory
     requires { ⌜ Sized m ⌝ }
-    ensures { λ r. ⌜ r ≡ mapRom chip m ⌝ }
+    ensures { λ r. ⌜ (r ≡ mapRom chip m) × (Sized r) ⌝ }
 {
     let at_8000 = map_bank(m, 0x8000, chip.prg_banks[0]);
     let at_a000 = map_bank(at_8000, 0xA000, chip.prg_banks[1]);

@@ -32,10 +32,11 @@ unfoldable pub syncArena : State → List ℕ → List ℕ
 syncArena s arena =
     ifAccepted (firstOf (batteryChecks s (length arena))) (overlay arena (regionIn (s .memory) BatteryExt .start) (s .chip .audio .ram)) arena
 
--- "`restore_battery` goes back": the sound RAM, and nothing else
+-- the 128 bytes of the battery's part
 abbrev pub batteryBytes : State → List ℕ → List ℕ
 batteryBytes s arena = take 128 (drop (regionIn (s .memory) BatteryExt .start) arena)
 
+-- "`restore_battery` goes back": the sound RAM, and nothing else
 unfoldable pub restoreState : State → List ℕ → Altered
 restoreState s arena =
     let q = firstOf (batteryChecks s (length arena)) in

@@ -3,12 +3,12 @@ use mathlib.Core.Path.{_≡_, refl, sym, ap, ap₂, _∙_}
 use mathlib.Core.Bool.{Bool, true, false}
 use mathlib.Core.List.{List, [], _∷_, _++_, append-assoc, append-nil}
 use Prim.Native.Nat.{ℕ, zero, suc, _+_, _*_, _^_, _/_, _%_, _≤_, _<_}
-use native.Mathlib.Nat.{mod-lt, zero-add, zero-mul, mod-eq-of-lt, mod-one, not-suc-le-zero, le-of-suc-le-suc, suc-inj, mul-le-mul-right, add-zero}
+use native.Mathlib.Nat.{mod-lt, zero-add, zero-mul, mod-eq-of-lt, mod-one, suc-inj, mul-le-mul-right, add-zero}
 use native.Mathlib.Omega.{arith}
 use lib.Dec.{eqb}
 use lib.Pow.{pow-pos, pow-add, high, low, mod-pow-add}
 use lib.Arith.{digits-lt}
-use lib.ListN.{length, take, set, getD, replicate, length-append, replicate-append-replicate}
+use lib.ListN.{length, getD, replicate, length-append, replicate-append-replicate}
 use Rattle.bits.specs.Fields.{total, pack, unpack, Fit, after, bit, times, each}
 
 -- ---- the two round trips
@@ -80,8 +80,7 @@ pub after-one : (S w v : ℕ) → S * 2 ^ w + v ≡ after S (w ∷ []) (v ∷ []
 unfolding after total pack
 after-one S w v = rw (add-zero w) (omega arith)
 
-pub after-append : (S : ℕ) (ws vs us xs : List ℕ) → length ws ≡ length vs → after (after S ws vs) us xs ≡ after S (ws ++ us)
-    (vs ++ xs)
+pub after-append : (S : ℕ) (ws vs us xs : List ℕ) → length ws ≡ length vs → after (after S ws vs) us xs ≡ after S (ws ++ us) (vs ++ xs)
 unfolding after
 after-append S ws vs us xs e =
     rw (total-append ws us, pow-add 2 (total ws) (total us), pack-append ws us vs xs e) (omega arith)
@@ -104,12 +103,12 @@ fit-append [] us (v ∷ vs) xs f g = absurd f
 fit-append (w ∷ ws) us [] xs f g = absurd f
 fit-append (w ∷ ws) us (v ∷ vs) xs f g = (f .0, fit-append ws us vs xs (f .1) g)
 
--- an element of a run
-pub fit-at : (n w : ℕ) (xs : List ℕ) (i : ℕ) → Fit (replicate n w) xs → i < length xs → getD xs i 0 < 2 ^ w
-fit-at n w [] i f h = absurd (not-suc-le-zero h)
-fit-at zero w (x ∷ xs) i f h = absurd f
-fit-at (suc n) w (x ∷ xs) zero f h = f .0
-fit-at (suc n) w (x ∷ xs) (suc i) f h = fit-at n w xs i (f .1) (le-of-suc-le-suc h)
+-- a value of a run, and what is read beyond the last
+pub fit-below : (n w : ℕ) (xs : List ℕ) → Fit (replicate n w) xs → (i : ℕ) → getD xs i 0 < 2 ^ w
+fit-below n w [] f i = pow-pos w
+fit-below zero w (x ∷ xs) f i = absurd f
+fit-below (suc n) w (x ∷ xs) f zero = f .0
+fit-below (suc n) w (x ∷ xs) f (suc i) = fit-below n w xs (f .1) i
 
 pub bit-lt : (b : Bool) → bit b < 2
 bit-lt true = omega arith
@@ -137,7 +136,7 @@ room i n w h = omega (arith, mul-le-mul-right w h)
 
 -- ---- the fields of each element of an array
 
-each-append : {A : Type 0} (f : A → List ℕ) (xs ys : List A) → each f (xs ++ ys) ≡ each f xs ++ each f ys
+pub each-append : {A : Type 0} (f : A → List ℕ) (xs ys : List A) → each f (xs ++ ys) ≡ each f xs ++ each f ys
 unfolding each
 each-append f [] ys = refl
 each-append f (x ∷ xs) ys = ap (λ (l : List ℕ). f x ++ l) (each-append f xs ys) ∙ sym (append-assoc (f x) (each f xs) (each f ys))
@@ -146,12 +145,12 @@ pub each-snoc : {A : Type 0} (f : A → List ℕ) (xs : List A) (x : A) → each
 unfolding each
 each-snoc f xs x = each-append f xs (x ∷ []) ∙ ap (λ (l : List ℕ). each f xs ++ l) (append-nil (f x))
 
-pub times-snoc : (n : ℕ) (ws : List ℕ) → times n ws ++ ws ≡ times (n + 1) ws
+pub times-add : (n m : ℕ) (ws : List ℕ) → times (n + m) ws ≡ times n ws ++ times m ws
 unfolding times
-times-snoc zero ws = sym (append-nil ws)
-times-snoc (suc n) ws =
-    append-assoc ws (times n ws) ws ∙ ap (λ (l : List ℕ). ws ++ l) (times-snoc n ws)
-    ∙ ap (λ (k : ℕ). times k ws) (let e : suc (n + 1) ≡ suc n + 1 = omega arith in e)
+times-add zero m ws = ap (λ (k : ℕ). times k ws) (zero-add m)
+times-add (suc n) m ws =
+    ap (λ (k : ℕ). times k ws) (let e : suc n + m ≡ suc (n + m) = omega arith in e)
+    ∙ ap (λ (l : List ℕ). ws ++ l) (times-add n m ws) ∙ sym (append-assoc ws (times n ws) (times m ws))
 
 pub total-times : (n : ℕ) (ws : List ℕ) → total (times n ws) ≡ n * total ws
 unfolding times total
@@ -166,25 +165,3 @@ times-each f ws h zero (x ∷ xs) e = omega arith
 times-each f ws h (suc n) [] e = omega arith
 times-each f ws h (suc n) (x ∷ xs) e =
     omega (arith, length-append ws (times n ws), length-append (f x) (each f xs), h x, times-each f ws h n xs (suc-inj e))
-
--- ---- what holds of each element
-
-pub holds-set : {A : Type 0} (P : A → Type 0) (xs : List A) (i : ℕ) (d v : A) → ((k : ℕ) → P (getD xs k d)) → P v → (k : ℕ) → P
-    (getD (set xs i v) k d)
-holds-set P [] i d v h p k = h k
-holds-set P (x ∷ xs) zero d v h p zero = p
-holds-set P (x ∷ xs) zero d v h p (suc k) = h (suc k)
-holds-set P (x ∷ xs) (suc i) d v h p zero = h 0
-holds-set P (x ∷ xs) (suc i) d v h p (suc k) = holds-set P xs i d v (λ m. h (suc m)) p k
-
-pub holds-replicate : {A : Type 0} (P : A → Type 0) (n : ℕ) (d : A) → P d → (k : ℕ) → P (getD (replicate n d) k d)
-holds-replicate P zero d p k = p
-holds-replicate P (suc n) d p zero = p
-holds-replicate P (suc n) d p (suc k) = holds-replicate P n d p k
-
-pub holds-take : {A : Type 0} (P : A → Type 0) (n : ℕ) (xs : List A) (d : A) → P d → ((k : ℕ) → P (getD xs k d)) → (k : ℕ) → P
-    (getD (take n xs) k d)
-holds-take P zero xs d p h k = p
-holds-take P (suc n) [] d p h k = p
-holds-take P (suc n) (x ∷ xs) d p h zero = h 0
-holds-take P (suc n) (x ∷ xs) d p h (suc k) = holds-take P n xs d p (λ m. h (suc m)) k

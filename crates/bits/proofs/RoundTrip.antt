@@ -16,8 +16,8 @@ module _ (ws : List ℕ) (n : ℕ) (whole : total ws ≡ n * 8) where
       ∙ unpack-pack ws vs f
 
   -- the bytes of the fields of bytes
-  pub bytes-back : (img : List ℕ) → length img ≡ n → ((i : ℕ) → getD img i 0 < 2 ^ 8) → unpack (eights n)
-      (pack ws (unpack ws (wordOf img))) ≡ img
+  pub bytes-back : (img : List ℕ) → length img ≡ n → ((i : ℕ) → getD img i 0 < 2 ^ 8)
+      → unpack (eights n) (pack ws (unpack ws (wordOf img))) ≡ img
   bytes-back img l b =
       let small : wordOf img < 2 ^ total ws =
       subst (λ (k : ℕ). wordOf img < 2 ^ k) (total-eights (length img) ∙ ap (λ (k : ℕ). k * 8) l ∙ sym whole)

@@ -3,6 +3,7 @@ use Prim.Native.Nat.{ℕ, _+_, _*_, _/_, _≤_, _<_}
 use mathlib.Core.Path.{_≡_, refl}
 use mathlib.Core.Bool.{Bool, true, false, cond, _&&_}
 use native.Mathlib.Omega.{arith}
+use borrow.Author.Needs.{needs}
 use borrow.Author.Tests.{eqb-true, eqb-false, eq-eqb}
 use lib.Dec.{eqb}
 use Rattle.memory.specs.declared.layout.MemoryLayout.{MemoryLayout}
@@ -14,7 +15,7 @@ use Rattle.memory.proofs.Laws.Layout.{layout-good}
 use Rattle.state.specs.State.{mapperOk}
 use Rattle.state.proofs.Every.{was-true}
 use Rattle.refusals.specs.Refusals.{firstOf, loadChecks}
-use Rattle.cartridge.specs.Load.{LoadFits, memoryAtLoad}
+use Rattle.cartridge.specs.Cartridge.{LoadFits, memoryAtLoad}
 use Rattle.refusals.proofs.Laws.{accepted-none}
 
 pub sized-load : (mapper : ℕ) (sizes : MemoryLayout) → LoadFits mapper sizes → Sized (memoryAtLoad mapper sizes)
@@ -32,7 +33,7 @@ pub record LoadGood (mapper : ℕ) (sizes : MemoryLayout) : Type 0 where
 
 pub load-good : (mapper : ℕ) (sizes : MemoryLayout) (len : ℕ) → firstOf (loadChecks mapper sizes len) ≡ 0 → LoadGood mapper sizes
 load-good mapper sizes len e =
-    let h = accepted-none (loadChecks mapper sizes len) (omega arith, (omega arith, (omega arith, (omega arith, tt)))) e in
+    let h = accepted-none (loadChecks mapper sizes len) (search needs) e in
     record {
       small = number (eqb mapper 19) refl (was-true (mapperOk mapper) (h .0));
       fits =

@@ -7,8 +7,7 @@ use lib.ListN.{length, take, set, replicate, replicate-append-replicate}
 use lib.Seq.{take-suc-set, take-length}
 
 -- one more element is cleared
-pub clear-more : (dst : List ℕ) (i : ℕ) → i < length dst → take i dst ≡ replicate i 0 → take (i + 1) (set dst i 0) ≡ replicate
-    (i + 1) 0
+pub clear-more : (dst : List ℕ) (i : ℕ) → i < length dst → take i dst ≡ replicate i 0 → take (i + 1) (set dst i 0) ≡ replicate (i + 1) 0
 clear-more dst i h e =
     rw (add-one i, take-suc-set dst i 0 h, e) (replicate-append-replicate i 1 0 ∙ ap (λ (k : ℕ). replicate k 0) (add-one i))
 

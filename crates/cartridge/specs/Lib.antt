@@ -1,1 +1,1 @@
-pub mod Load
+pub mod Cartridge

@@ -15,7 +15,7 @@ ghost use mathlib.Core.Path.{_≡_};
 ghost use mathlib.Core.Bool.{true};
 ghost use lib.ListN.{length, replicate};
 ghost use Rattle.memory.specs.Layout.{withinLimits};
-ghost use Rattle.cartridge.specs.Load.{memoryAtLoad, freshState, noState, loadAnswer, loadArena, LoadFits};
+ghost use Rattle.cartridge.specs.Cartridge.{memoryAtLoad, freshState, noState, loadAnswer, loadArena, LoadFits};
 
 // A load's answer. Where it is refused, the state is one that no call accepts.
 pub struct Loaded {

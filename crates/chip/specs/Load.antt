@@ -1,4 +1,4 @@
--- The registers of a fresh board, the Rust's `Namco163::load` but for the mapping.
+-- The registers of a fresh board.
 use Prim.Native.Nat.{ℕ, _/_, _%_}
 use mathlib.Core.Bool.{Bool, true, false, cond, not}
 use lib.Dec.{eqb}
@@ -23,7 +23,7 @@ detectingAtLoad mapper sub known = cond (eqb mapper 19) (not known) (cond (eqb s
 unfoldable pub mirroringAtLoad : ℕ → Mirroring
 mirroringAtLoad flags = cond (eqb (flags / 8 % 2) 1) FourScreen (cond (eqb (flags % 2) 1) Vertical Horizontal)
 
--- all else is 0, and the sound is `Audio::new`
+-- `Namco163::load` but for the mapping: all else is 0, and the sound is `Audio::new`
 unfoldable pub chipAtLoad : ℕ → ℕ → ℕ → Bool → Namco163
 chipAtLoad mapper sub flags known =
     record {

@@ -17,6 +17,7 @@ boardNum Is163 = 1
 boardNum Namco175 = 2
 boardNum Namco340 = 3
 
+-- the Rust's `self.board == Board::..`
 abbrev pub is163 : Board → Bool
 is163 b = eqb (boardNum b) 1
 
@@ -25,6 +26,8 @@ is175 b = eqb (boardNum b) 2
 
 abbrev pub is340 : Board → Bool
 is340 b = eqb (boardNum b) 3
+
+-- ---- the board with one field replaced, and the registers likewise
 
 abbrev pub withBoard : Namco163 → Board → Namco163
 withBoard n b =

@@ -20,6 +20,7 @@ kindNum Hard = 1
 abbrev pub noRegs : Regs
 noRegs = record { «irq_counter» = 0; «irq_pending» = false; «nt_select_lo» = false; «nt_select_hi» = false; «prg_ram_protect» = 0 }
 
+-- "hard also clears `Regs`"
 abbrev pub resetRegs : ResetKind → Regs → Regs
 resetRegs Soft r = r
 resetRegs Hard r = noRegs
@@ -28,6 +29,7 @@ resetRegs Hard r = noRegs
 abbrev pub setNametables : {A : Type 0} → A → List A → List A
 setNametables v l = set (set (set (set l 8 v) 9 v) 10 v) 11 v
 
+-- `Namco163::reset`
 unfoldable pub resetChip : Namco163 → ResetKind → Namco163
 resetChip n k =
     withAudio

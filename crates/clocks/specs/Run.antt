@@ -31,6 +31,7 @@ lengthCheck n = record { number = 10; holds = ltb runLimit n }
 abbrev pub roomCheck : State → ℕ → ℕ → Check
 roomCheck s n room = record { number = 11; holds = ltb room (made n s) }
 
+-- a run takes the state, the clocks and the lent samples
 abbrev pub runChecks : State → ℕ → ℕ → List Check
 runChecks s n room = stateCheck s ∷ lengthCheck n ∷ roomCheck s n room ∷ []
 

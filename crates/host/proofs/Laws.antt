@@ -14,10 +14,11 @@ use Rattle.state.specs.State.{inRange}
 use Rattle.state.proofs.Every.{and-right}
 use Rattle.refusals.specs.Refusals.{Check, firstOf, stateCheck, cpuChecks, loadChecks}
 use Rattle.namco163.specs.Calls.{cpuRead}
-use Rattle.cartridge.specs.Load.{freshState, loadAnswer}
+use Rattle.cartridge.specs.Cartridge.{freshState, loadAnswer}
 use Rattle.refusals.proofs.Laws.{first-done}
 use Rattle.image.specs.Image.{imageBytes, imageOf, part, partWidths}
 use Rattle.image.specs.Writing.{imageCheck, writeRefusal, writtenImage}
+use Rattle.image_read.specs.declared.reading.ReadImage.{ReadImage}
 use Rattle.image_read.specs.Reading.{cutInto, stateOf, fieldsOk, fieldsOf, readChecks, readImage}
 use Rattle.image_read.proofs.RoundTrip.{accepted-in-range}
 use Rattle.image_read.proofs.Accepted.{accepted}
@@ -25,7 +26,7 @@ use Rattle.host.specs.Host.{Gives, unlessRefused, onImage, stateIn}
 
 -- ---- a refused call, and an accepted one
 
-pub refused-gives : (cs : List Check) (img lent : List ℕ) (g : Gives) → (firstOf cs ≡ 0 → ⊥)
+refused-gives : (cs : List Check) (img lent : List ℕ) (g : Gives) → (firstOf cs ≡ 0 → ⊥)
     → unlessRefused cs img lent g ≡ record { word = firstOf cs; image = img; lent = lent }
 refused-gives cs img lent g h = rw (ne-eqb (firstOf cs) 0 h)
 
@@ -48,7 +49,7 @@ read-number img = go (eqb (firstOf (readChecks img)) 0) refl
 
 module _ (img : List ℕ) (own : List Check) (lent : List ℕ) (g : Gives) where
   -- an image that is refused: the call answers its number
-  pub stopped : (readImage img .refusal ≡ 0 → ⊥) → unlessRefused (onImage img own) img lent g
+  stopped : (readImage img .refusal ≡ 0 → ⊥) → unlessRefused (onImage img own) img lent g
       ≡ record { word = readImage img .refusal; image = img; lent = lent }
   stopped h =
       let d = first-done (readChecks img) own (λ e. h (read-number img ∙ e)) ∙ sym (read-number img) in
@@ -56,18 +57,42 @@ module _ (img : List ℕ) (own : List Check) (lent : List ℕ) (g : Gives) where
       ∙ ap (λ (q : ℕ). record { word = q; image = img; lent = lent }) d
 
   -- an image that is accepted: the call goes on with its state
-  pub onward : readImage img .refusal ≡ 0 → unlessRefused (onImage img own) img lent g ≡ unlessRefused
-      (stateCheck (stateIn img) ∷ own) img lent g
+  onward : readImage img .refusal ≡ 0
+      → unlessRefused (onImage img own) img lent g ≡ unlessRefused (stateCheck (stateIn img) ∷ own) img lent g
   unfolding firstOf
   onward e =
       let h = accepted-in-range img e in
       rw (eq-eqb (length img) imageBytes (h .0), h .1, fields-range (fieldsOf img) (h .1))
 
-pub state-read : (img : List ℕ) → readImage img .refusal ≡ 0 → readImage img .state ≡ stateIn img
+state-read : (img : List ℕ) → readImage img .refusal ≡ 0 → readImage img .state ≡ stateIn img
 state-read img e = let h = accepted-in-range img e in ap (λ r. r .state) (accepted img (h .0) (h .1))
 
-pub range-read : (img : List ℕ) → readImage img .refusal ≡ 0 → inRange (readImage img .state) ≡ true
-range-read img e = ap inRange (state-read img e) ∙ fields-range (fieldsOf img) (accepted-in-range img e .1)
+-- a call that reads an image to r: `whole` is what it gives, `on` what it gives on a state
+pub record OnImage (img lent : List ℕ) (whole : Gives) (on : State → Gives) (r : ReadImage) : Type 0 where
+  -- what the reading says of an accepted image
+  pub accepted : r .refusal ≡ 0 → readImage img .refusal ≡ 0
+  pub good : r .refusal ≡ 0 → (length img ≡ imageBytes) × (inRange (r .state) ≡ true)
+  -- the image refuses, or the call goes on with its state
+  pub refused : (r .refusal ≡ 0 → ⊥) → record { word = r .refusal; image = img; lent = lent } ≡ whole
+  pub goes-on : r .refusal ≡ 0 → on (r .state) ≡ whole
+
+pub on-image : (img lent : List ℕ) (own : State → List Check) (g : State → Gives) (r : ReadImage) → r ≡ readImage img
+    → OnImage img lent (unlessRefused (onImage img (own (stateIn img))) img lent (g (stateIn img)))
+    (λ s. unlessRefused (stateCheck s ∷ own s) img lent (g s)) r
+on-image img lent own g r is =
+    let q = ap (λ (x : ReadImage). x .refusal) is in
+    let s : r .refusal ≡ 0 → r .state ≡ stateIn img = λ z. ap (λ (x : ReadImage). x .state) is ∙ state-read img (sym q ∙ z) in
+    record {
+      accepted = λ z. sym q ∙ z;
+      good = λ z. (
+        accepted-in-range img (sym q ∙ z) .0,
+        ap inRange (s z) ∙ fields-range (fieldsOf img) (accepted-in-range img (sym q ∙ z) .1),
+      );
+      refused = λ h. ap (λ (x : ℕ). record { word = x; image = img; lent = lent }) q
+          ∙ sym (stopped img (own (stateIn img)) lent (g (stateIn img)) (λ z. h (q ∙ z)));
+      goes-on = λ z. ap (λ (x : State). unlessRefused (stateCheck x ∷ own x) img lent (g x)) (s z)
+          ∙ sym (onward img (own (stateIn img)) lent (g (stateIn img)) (sym q ∙ z));
+    }
 
 -- ---- the image of a state in range
 
@@ -75,15 +100,23 @@ pub written-in-range : (s : State) (img : List ℕ) → length img ≡ imageByte
 unfolding writtenImage writeRefusal firstOf
 written-in-range s img l e = rw (eq-eqb (length img) imageBytes l, e)
 
--- ---- a call on a state, by the number that it answered
+-- ---- a call on a state, by the number q that it answered
 
-module _ (cs : List Check) (img lent : List ℕ) (g : Gives) (q : ℕ) (is : q ≡ firstOf cs) where
-  pub call-refused : (q ≡ 0 → ⊥) → record { word = q; image = img; lent = lent } ≡ unlessRefused cs img lent g
-  call-refused h = ap (λ (x : ℕ). record { word = x; image = img; lent = lent }) is
-      ∙ sym (refused-gives cs img lent g (λ e. h (is ∙ e)))
+pub record Called (cs : List Check) (img lent : List ℕ) (g : Gives) (q : ℕ) : Type 0 where
+  pub none : q ≡ 0 → firstOf cs ≡ 0
+  pub some : (q ≡ 0 → ⊥) → firstOf cs ≡ 0 → ⊥
+  pub refused : (q ≡ 0 → ⊥) → record { word = q; image = img; lent = lent } ≡ unlessRefused cs img lent g
+  pub accepted : q ≡ 0 → g ≡ unlessRefused cs img lent g
 
-  pub call-accepted : q ≡ 0 → g ≡ unlessRefused cs img lent g
-  call-accepted e = sym (accepted-gives cs img lent g (sym is ∙ e))
+pub called : (cs : List Check) (img lent : List ℕ) (g : Gives) (q : ℕ) → q ≡ firstOf cs → Called cs img lent g q
+called cs img lent g q is =
+    record {
+      none = λ z. sym is ∙ z;
+      some = λ h e. h (is ∙ e);
+      refused = λ h. ap (λ (x : ℕ). record { word = x; image = img; lent = lent }) is
+          ∙ sym (refused-gives cs img lent g (λ e. h (is ∙ e)));
+      accepted = λ z. sym (accepted-gives cs img lent g (sym is ∙ z));
+    }
 
 abbrev pub word-of : {a b : Gives} → a ≡ b → a .word ≡ b .word
 word-of e = ap (λ (g : Gives). g .word) e

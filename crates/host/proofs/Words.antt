@@ -8,6 +8,7 @@ use native.Mathlib.Nat.{pow-suc}
 use lib.Pow.{pow-pos}
 use native.Mathlib.Omega.{arith}
 use borrow.Author.Tests.{eqb-true, ltb-false}
+use borrow.Author.Needs.{needs}
 use lib.Dec.{eqb}
 use lib.ListN.{length}
 use Rattle.bits.specs.Fields.{Fit, times}
@@ -25,10 +26,10 @@ use Rattle.refusals.proofs.Laws.{accepted-none}
 use Rattle.image.specs.Image.{pageWidths, partWidths, widths}
 use Rattle.image.specs.Writing.{imageCheck}
 use Rattle.image_read.specs.Reading.{pagesOf, cutInto, stateFrom, stateOf, fieldsOf}
-use Rattle.image_read.proofs.States.{fit-cut}
+use Rattle.image_read.proofs.Parts.{fit-cut}
 use Rattle.clocks.specs.Run.{clocks, made}
 use Rattle.range.proofs.Calls.{cpu-write-mask}
-use Rattle.host.specs.Host.{Gives, unlessRefused, onImage, stateIn, loadGives, hostLoad, resetGives, hostReset, cpuOwn, readGives, hostRead, writeGives, hostWrite, runOwn, runGives, hostRun}
+use Rattle.host.specs.Host.{Gives, unlessRefused, onImage, stateIn, hostLoad, hostReset, cpuOwn, readGives, hostRead, writeGives, hostWrite, runOwn, runGives, hostRun}
 use Rattle.host.proofs.Laws.{accepted-gives, fields-range}
 use Rattle.host.proofs.samples.Laws.{made-most}
 
@@ -58,40 +59,33 @@ low-bits cs img lent g h e = go (eqb (firstOf cs) 0) refl
     go false q = omega (arith, first-small cs h)
 
 pub load-number : (img arena : List ℕ) (mapper sub flags known : ℕ) (sizes : MemoryLayout)
-    → hostLoad img arena mapper sub flags known sizes .word % 256 ≡ firstOf
-    (imageCheck (length img) ∷ loadChecks mapper sizes (length arena))
+    → hostLoad img arena mapper sub flags known sizes .word % 256
+    ≡ firstOf (imageCheck (length img) ∷ loadChecks mapper sizes (length arena))
 unfolding hostLoad
-load-number img arena mapper sub flags known sizes =
-    low-bits (imageCheck (length img) ∷ loadChecks mapper sizes (length arena)) img arena
-    (loadGives arena mapper sub flags known sizes)
-    (omega arith, (omega arith, (omega arith, (omega arith, (omega arith, tt))))) refl
+load-number img arena mapper sub flags known sizes = low-bits _ _ _ _ (search needs) refl
 
 pub reset-number : (img : List ℕ) (kind : ℕ) → hostReset img kind .word % 256 ≡ firstOf (onImage img (kindCheck kind ∷ []))
 unfolding hostReset
-reset-number img kind =
-    low-bits (onImage img (kindCheck kind ∷ [])) img [] (resetGives (stateIn img) kind)
-    (omega arith, (omega arith, (omega arith, tt))) refl
+reset-number img kind = low-bits _ _ _ _ (search needs) refl
 
-pub read-number : (img arena : List ℕ) (addr : ℕ) → hostRead img arena addr .word % 256 ≡ firstOf
-    (onImage img (cpuOwn (stateIn img) arena addr))
+pub read-number : (img arena : List ℕ) (addr : ℕ)
+    → hostRead img arena addr .word % 256 ≡ firstOf (onImage img (cpuOwn (stateIn img) arena addr))
 unfolding hostRead
 read-number img arena addr =
-    low-bits (onImage img (cpuOwn (stateIn img) arena addr)) img arena (readGives (stateIn img) arena addr)
-    (omega arith, (omega arith, (omega arith, (omega arith, tt)))) (omega arith)
+    low-bits _ img arena (readGives (stateIn img) arena addr) (search needs) (omega arith)
 
-pub write-number : (img arena : List ℕ) (addr v : ℕ) → hostWrite img arena addr v .word % 256 ≡ firstOf
-    (onImage img (cpuOwn (stateIn img) arena addr))
+pub write-number : (img arena : List ℕ) (addr v : ℕ)
+    → hostWrite img arena addr v .word % 256 ≡ firstOf (onImage img (cpuOwn (stateIn img) arena addr))
 unfolding hostWrite
 write-number img arena addr v =
-    low-bits (onImage img (cpuOwn (stateIn img) arena addr)) img arena (writeGives (stateIn img) arena addr v)
-    (omega arith, (omega arith, (omega arith, (omega arith, tt)))) (omega (arith, cpu-write-mask (stateIn img) arena addr v))
+    low-bits _ img arena (writeGives (stateIn img) arena addr v) (search needs)
+    (omega (arith, cpu-write-mask (stateIn img) arena addr v))
 
-pub run-number : (img samples : List ℕ) (n : ℕ) → hostRun img samples n .word % 256 ≡ firstOf
-    (onImage img (runOwn (stateIn img) samples n))
+pub run-number : (img samples : List ℕ) (n : ℕ)
+    → hostRun img samples n .word % 256 ≡ firstOf (onImage img (runOwn (stateIn img) samples n))
 unfolding hostRun
 run-number img samples n =
-    low-bits (onImage img (runOwn (stateIn img) samples n)) img samples (runGives (stateIn img) samples n)
-    (omega arith, (omega arith, (omega arith, (omega arith, tt)))) (omega arith)
+    low-bits _ img samples (runGives (stateIn img) samples n) (search needs) (omega arith)
 
 -- ---- "a read's byte from bit 8"
 
@@ -172,6 +166,6 @@ run-counts img samples n e =
     let g = runGives (stateIn img) samples n in
     let cs = onImage img (runOwn (stateIn img) samples n) in
     let w = ap (λ (x : Gives). x .word) (accepted-gives cs img samples g e) in
-    let h = accepted-none cs (omega arith, (omega arith, (omega arith, (omega arith, tt)))) e in
+    let h = accepted-none cs (search needs) e in
     let few = made-most (stateIn img) n (fields-range (fieldsOf img) (was-true _ (h .1 .0))) (ltb-false 65536 n (h .1 .1 .0)) in
     record { samples = omega (arith, w, few); rises = omega (arith, w, few) }

@@ -14,7 +14,7 @@ use Rattle.state.specs.declared.State.{State}
 use Rattle.refusals.specs.Refusals.{Check, firstOf, kindCheck, arenaCheck, addressCheck, loadChecks, resetChecks, cpuChecks, stateCheck, ifAccepted}
 use Rattle.namco163.specs.Calls.{cpuRead, cpuWrite, cpuWriteArena}
 use Rattle.battery.specs.Battery.{resetState}
-use Rattle.cartridge.specs.Load.{freshState, loadArena}
+use Rattle.cartridge.specs.Cartridge.{freshState, loadArena}
 use Rattle.image.specs.Image.{imageOf}
 use Rattle.image.specs.Writing.{imageCheck}
 use Rattle.image_read.specs.Reading.{stateOf, fieldsOf, fieldsCheck}
@@ -46,24 +46,29 @@ stateIn img = stateOf (fieldsOf img)
 abbrev pub yes : ℕ → Bool
 yes n = not (eqb n 0)
 
+-- the sizes of a load
 abbrev pub sizesOf : ℕ → ℕ → ℕ → ℕ → ℕ → ℕ → MemoryLayout
 sizesOf rom ram battery chr writable ciram =
     record { «prg_rom» = rom; «prg_ram» = ram; «battery_ext» = battery; chr = chr; «chr_writable» = yes writable; ciram = ciram }
 
+-- an accepted load: the image of the fresh state, and the arena filled with zeros
 abbrev pub loadGives : List ℕ → ℕ → ℕ → ℕ → ℕ → MemoryLayout → Gives
 loadGives arena mapper sub flags known sizes =
     record { word = 0; image = imageOf (freshState mapper sub flags (yes known) sizes); lent = loadArena mapper sizes arena }
 
+-- refused by 1, then by a load's own checks
 unfoldable pub hostLoad : List ℕ → List ℕ → ℕ → ℕ → ℕ → ℕ → MemoryLayout → Gives
 hostLoad img arena mapper sub flags known sizes =
     unlessRefused (imageCheck (length img) ∷ loadChecks mapper sizes (length arena)) img arena (loadGives arena mapper sub flags known sizes)
+
+-- ---- each of the other calls: what it gives where it is accepted (`..Gives`), what it gives on a state (`..On`: what the image's own checks leave to do),
+-- and the whole call on an image (`host..`)
 
 -- ---- reset
 
 abbrev pub resetGives : State → ℕ → Gives
 resetGives s kind = record { word = 0; image = imageOf (resetState s kind .state); lent = [] }
 
--- the same on a state: what the image's own checks leave to do
 abbrev pub resetOn : State → List ℕ → ℕ → Gives
 resetOn s img kind = unlessRefused (resetChecks s kind) img [] (resetGives s kind)
 
@@ -72,6 +77,7 @@ hostReset img kind = unlessRefused (onImage img (kindCheck kind ∷ [])) img [] 
 
 -- ---- CPU read and write
 
+-- 7 and 8
 abbrev pub cpuOwn : State → List ℕ → ℕ → List Check
 cpuOwn s arena addr = arenaCheck (arenaLen (s .memory .layout)) (length arena) ∷ addressCheck addr ∷ []
 
@@ -103,7 +109,7 @@ hostWrite img arena addr v = let s = stateIn img in unlessRefused (onImage img (
 abbrev pub sampleBytes : Float → List ℕ
 sampleBytes x = bytesOf 4 (toBits binary32 x)
 
--- "whole groups of 4 bytes count"
+-- 10 and 11: "from a host, whole groups of 4 bytes count"
 abbrev pub runOwn : State → List ℕ → ℕ → List Check
 runOwn s samples n = lengthCheck n ∷ roomCheck s n (length samples / 4) ∷ []
 

@@ -9,7 +9,7 @@ use battery::reset;
 use cartridge::load;
 use image::writing::put_state;
 use image::writing::write_image;
-use image_read::read_image;
+use image_read::reading::read_image;
 use memory::layout::MemoryLayout;
 use namco163::calls::cpu_read_of;
 use namco163::calls::cpu_write_of;

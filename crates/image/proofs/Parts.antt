@@ -2,24 +2,24 @@
 use mathlib.Core.Path.{_≡_, refl, sym, ap, _∙_}
 use mathlib.Core.Bool.{Bool, false}
 use mathlib.Core.List.{List, [], _∷_, _++_, map, append-assoc}
-use Prim.Native.Nat.{ℕ, zero, suc, _+_, _-_, _*_, _^_, _≤_, _<_}
+use Prim.Native.Nat.{ℕ, zero, suc, _+_, _*_, _^_, _≤_, _<_}
 use native.Mathlib.Numerals.{add-one}
 use native.Mathlib.Omega.{arith}
 use lib.Pow.{pow-add, pow-mono}
-use lib.ListN.{length, take, drop, getD, replicate, length-append, length-drop, length-replicate, length-map}
+use lib.ListN.{length, take, getD, replicate, length-append, length-replicate, length-map}
 use lib.Arith.{lt-one}
-use lib.Seq.{take-suc, length-take-le, take-add, getD-drop}
-use Rattle.bits.specs.Fields.{total, pack, Fit, bit, times, each}
+use lib.Seq.{take-suc, length-take-le}
+use Rattle.bits.specs.Fields.{total, pack, Fit, bit}
 use Rattle.bits.specs.Cursor.{Held, Wrote}
 use Rattle.bits.specs.declared.cursor.Cursor.{Cursor}
-use Rattle.bits.proofs.Fields.{pack-append, replicate-snoc, times-each, total-times}
+use Rattle.bits.proofs.Fields.{pack-append, replicate-snoc}
 use Rattle.bits.proofs.cursor.Laws.{wrote-append, wrote-none}
 use Rattle.image.specs.Image.{joined, byteAt}
 
 -- ---- words of fields of one width
 
-pub pack-snoc : (n w : ℕ) (vs : List ℕ) (v : ℕ) → length vs ≡ n → pack (replicate (n + 1) w) (vs ++ v ∷ []) ≡ pack
-    (replicate n w) vs * 2 ^ w + v
+pub pack-snoc : (n w : ℕ) (vs : List ℕ) (v : ℕ) → length vs ≡ n
+    → pack (replicate (n + 1) w) (vs ++ v ∷ []) ≡ pack (replicate n w) vs * 2 ^ w + v
 unfolding pack total
 pack-snoc n w vs v e =
     ap (λ (ws : List ℕ). pack ws (vs ++ v ∷ [])) (sym (replicate-snoc n w))
@@ -31,8 +31,7 @@ map-append f [] ys = refl
 map-append f (x ∷ xs) ys = ap (λ (l : List ℕ). f x ∷ l) (map-append f xs ys)
 
 pub flags-more : (xs : List Bool) (i : ℕ) → i < length xs
-    → pack (replicate (i + 1) 1) (map bit (take (i + 1) xs)) ≡ pack (replicate i 1) (map bit (take i xs)) * 2 + bit
-    (getD xs i false)
+    → pack (replicate (i + 1) 1) (map bit (take (i + 1) xs)) ≡ pack (replicate i 1) (map bit (take i xs)) * 2 + bit (getD xs i false)
 flags-more xs i h =
     ap (λ (l : List Bool). pack (replicate (i + 1) 1) (map bit l)) (ap (λ (k : ℕ). take k xs) (add-one i) ∙ take-suc xs i false h)
     ∙ ap (pack (replicate (i + 1) 1)) (map-append bit (take i xs) (getD xs i false ∷ []))
@@ -43,14 +42,6 @@ doubled a b i h l = rw (pow-add 2 i 1) (omega arith)
 
 pub below-12 : (a i : ℕ) → a < 2 ^ i → i ≤ 12 → a < 4096
 below-12 a i h l = omega (arith, pow-mono {i = i} {j = 12} l)
-
--- a list of three
-pub three : (xs : List ℕ) → length xs ≡ 3 → xs ≡ getD xs 0 0 ∷ getD xs 1 0 ∷ getD xs 2 0 ∷ []
-three [] e = absurd (let z : ⊥ = omega arith in z)
-three (a ∷ []) e = absurd (let z : ⊥ = omega arith in z)
-three (a ∷ b ∷ []) e = absurd (let z : ⊥ = omega arith in z)
-three (a ∷ b ∷ c ∷ []) e = refl
-three (a ∷ b ∷ c ∷ d ∷ xs) e = absurd (let z : ⊥ = omega arith in z)
 
 -- ---- places at the start of a byte
 
@@ -69,71 +60,14 @@ pub wrote-to : (a b : List ℕ) (j k : ℕ) (w : Cursor) (ws vs : List ℕ) → 
     → Wrote a b (byteAt j) (byteAt k) ws vs
 wrote-to a b j k w ws vs e p = rw (← at-byte w k (p .held) (omega (arith, p .pos))) p
 
-pub each-map : {A : Type 0} (f : A → ℕ) (xs : List A) → each (λ x. f x ∷ []) xs ≡ map f xs
-unfolding each
-each-map f [] = refl
-each-map f (x ∷ xs) = ap (λ (l : List ℕ). f x ∷ l) (each-map f xs)
-
--- ---- elements in groups of four
-
-pub times-add : (n m : ℕ) (ws : List ℕ) → times (n + m) ws ≡ times n ws ++ times m ws
-unfolding times
-times-add zero m ws = ap (λ (k : ℕ). times k ws) (let e : 0 + m ≡ m = omega arith in e)
-times-add (suc n) m ws =
-    ap (λ (k : ℕ). times k ws) (let e : suc n + m ≡ suc (n + m) = omega arith in e)
-    ∙ ap (λ (l : List ℕ). ws ++ l) (times-add n m ws) ∙ sym (append-assoc ws (times n ws) (times m ws))
-
-each-append : {A : Type 0} (f : A → List ℕ) (xs ys : List A) → each f (xs ++ ys) ≡ each f xs ++ each f ys
-unfolding each
-each-append f [] ys = refl
-each-append f (x ∷ xs) ys = ap (λ (l : List ℕ). f x ++ l) (each-append f xs ys) ∙ sym (append-assoc (f x) (each f xs) (each f ys))
-
-four : {A : Type 0} (d : A) (ys : List A) → 4 ≤ length ys → take 4 ys ≡ getD ys 0 d ∷ getD ys 1 d ∷ getD ys 2 d ∷ getD ys 3 d ∷ []
-four d [] h = absurd (let z : ⊥ = omega arith in z)
-four d (a ∷ []) h = absurd (let z : ⊥ = omega arith in z)
-four d (a ∷ b ∷ []) h = absurd (let z : ⊥ = omega arith in z)
-four d (a ∷ b ∷ c ∷ []) h = absurd (let z : ⊥ = omega arith in z)
-four d (a ∷ b ∷ c ∷ e ∷ ys) h = refl
-
--- the four elements from i on
-abbrev pub fourAt : {A : Type 0} → A → List A → ℕ → List A
-fourAt d xs i = getD xs i d ∷ getD xs (i + 1) d ∷ getD xs (i + 2) d ∷ getD xs (i + 3) d ∷ []
-
-pub take-four : {A : Type 0} (d : A) (xs : List A) (i : ℕ) → i + 4 ≤ length xs → take (i + 4) xs ≡ take i xs ++ fourAt d xs i
-take-four {A = A} d xs i h =
-    take-add i 4 xs
-    ∙ ap (λ (l : List A). take i xs ++ l)
-    (four d (drop i xs) (rw length-drop (omega arith))
-    ∙ rw (getD-drop i xs 0 d, getD-drop i xs 1 d, getD-drop i xs 2 d, getD-drop i xs 3 d, let e : i + 0 ≡ i = omega arith in e))
-
-wrote-four : {A : Type 0} (f : A → List ℕ) (ws : List ℕ) (d : A) → ((x : A) → length ws ≡ length (f x)) → (a b c : List ℕ)
-    (u v w : Cursor) (xs : List A) (i : ℕ) → i + 4 ≤ length xs
-    → Wrote a b u v (times i ws) (each f (take i xs)) → Wrote b c v w (times 4 ws) (each f (fourAt d xs i))
-    → Wrote a c u w (times (i + 4) ws) (each f (take (i + 4) xs))
-wrote-four f ws d h a b c u v w xs i l p q =
-    rw (times-add i 4 ws, take-four d xs i l, each-append f (take i xs) (fourAt d xs i))
-    (wrote-append a b c u v w (times i ws) (each f (take i xs)) (times 4 ws) (each f (fourAt d xs i))
-    (times-each f ws h i (take i xs) (length-take-le i xs (omega arith))) p q)
-
--- eight elements of 11 bits are 11 bytes
-pub wrote-eight : {A : Type 0} (f : A → List ℕ) (ws : List ℕ) (d : A) → ((x : A) → length ws ≡ length (f x)) → total ws ≡ 11
-    → (a b m c : List ℕ) (p k : ℕ) (v w : Cursor) (xs : List A) → k * 8 + 8 ≤ length xs
-    → Wrote a b (byteAt p) (byteAt (p + k * 11)) (times (k * 8) ws) (each f (take (k * 8) xs))
-    → Wrote b m (byteAt (p + k * 11)) v (times 4 ws) (each f (fourAt d xs (k * 8))) → Wrote m c v w (times 4 ws)
-    (each f (fourAt d xs (k * 8 + 4)))
-    → Wrote a c (byteAt p) (byteAt (p + (k + 1) * 11)) (times ((k + 1) * 8) ws) (each f (take ((k + 1) * 8) xs))
-wrote-eight f ws d h t a b m c p k v w xs l q r s =
-    let e : (k + 1) * 8 ≡ k * 8 + 4 + 4 = omega arith in
-    let n = rw t at (total-times (k * 8 + 4 + 4) ws) in
-    let x = wrote-four f ws d h a b m (byteAt p) (byteAt (p + k * 11)) v xs (k * 8) (omega arith) q r in
-    let y = wrote-four f ws d h a m c (byteAt p) v w xs (k * 8 + 4) (omega arith) x s in
-    rw e (wrote-to a c p (p + (k + 1) * 11) w (times (k * 8 + 4 + 4) ws) (each f (take (k * 8 + 4 + 4) xs)) (omega (arith, n)) y)
-
 -- ---- values that fit
 
-pub fit-replicate : (w : ℕ) (xs : List ℕ) → ((i : ℕ) → i < length xs → getD xs i 0 < 2 ^ w) → Fit (replicate (length xs) w) xs
-fit-replicate w [] h = tt
-fit-replicate w (x ∷ xs) h = (h 0 (omega arith), fit-replicate w xs (λ i l. h (suc i) (omega arith)))
+pub fit-replicate : (n w : ℕ) (xs : List ℕ) → length xs ≡ n → ((i : ℕ) → i < n → getD xs i 0 < 2 ^ w) → Fit (replicate n w) xs
+fit-replicate zero w [] e h = tt
+fit-replicate zero w (x ∷ xs) e h = absurd (let z : ⊥ = omega arith in z)
+fit-replicate (suc n) w [] e h = absurd (let z : ⊥ = omega arith in z)
+fit-replicate (suc n) w (x ∷ xs) e h =
+    (h 0 (omega arith), fit-replicate n w xs (omega arith) (λ i l. h (suc i) (omega arith)))
 
 -- ---- parts one behind the other
 
@@ -151,6 +85,11 @@ unfolding joined
 joined-append [] ys = refl
 joined-append (x ∷ xs) ys = ap (λ (l : List ℕ). x ++ l) (joined-append xs ys) ∙ sym (append-assoc x (joined xs) (joined ys))
 
+-- a fact of the first part, then those of the parts behind it
+infixr 4 _then_
+abbrev pub _then_ : {A B : Type 0} → A → B → A × B
+_then_ a b = (a, b)
+
 -- as many values as widths, part by part
 abbrev pub SameLengths : List (List ℕ) → List (List ℕ) → Type 0
 SameLengths [] [] = Unit
@@ -167,8 +106,8 @@ joined-lengths (w ∷ ws) (v ∷ vs) h =
     omega (arith, length-append w (joined ws), length-append v (joined vs), h .0, joined-lengths ws vs (h .1))
 
 pub wrote-parts : (a b c : List ℕ) (u v w : Cursor) (ws vs us xs : List (List ℕ)) → SameLengths ws vs
-    → Wrote a b u v (joined ws) (joined vs) → Wrote b c v w (joined us) (joined xs) → Wrote a c u w (joined (ws ++ us))
-    (joined (vs ++ xs))
+    → Wrote a b u v (joined ws) (joined vs) → Wrote b c v w (joined us) (joined xs)
+    → Wrote a c u w (joined (ws ++ us)) (joined (vs ++ xs))
 wrote-parts a b c u v w ws vs us xs h p q =
     rw (joined-append ws us, joined-append vs xs)
     (wrote-append a b c u v w (joined ws) (joined vs) (joined us) (joined xs) (joined-lengths ws vs h) p q)

@@ -8,7 +8,6 @@ use borrow.Author.Tests.{leb-true}
 use lib.Dec.{leb}
 use lib.ListN.{getD}
 use Rattle.memory.specs.declared.Memory.{Memory}
-use Rattle.memory.specs.Page.{offsetOf, unmapped}
 use Rattle.memory.proofs.Laws.Layout.{pages-le}
 use Rattle.sound.specs.declared.audio.Audio.{Audio}
 use Rattle.state.specs.declared.State.{State}
@@ -18,6 +17,7 @@ use Rattle.state.specs.Audio.{outOk, outputTest, phaseTest, audioOk}
 use Rattle.state.specs.Tables.{memoryOk}
 use Rattle.state.proofs.Every.{and-left, and-right, every-at}
 use Rattle.state.proofs.TablesRange.{memory-in}
+use Rattle.image.specs.Pages.{PagesFit}
 
 pub record SoundFacts (a : Audio) : Type 0 where
   pub counter : a .«update_counter» ≤ 14
@@ -67,12 +67,12 @@ bank-at banks e i h = leb-true (getD banks i 0) 63 (every-at 3 (bankTest banks) 
 
 -- an entry's page number has 10 bits
 module _ (m : Memory) (e : memoryOk m ≡ true) where
-  pub prg-at : (i : ℕ) → i < 64 → offsetOf (getD (m .«prg_pages») i unmapped) < 1048576
+  pub prg-at : PagesFit 64 (m .«prg_pages»)
   prg-at i h =
       let r = memory-in m e .ranged in
       omega (arith, r .prg i h .inside, pages-le (m .layout) (r .sized .layout))
 
-  pub chr-at : (i : ℕ) → i < 16 → offsetOf (getD (m .«chr_pages») i unmapped) < 1048576
+  pub chr-at : PagesFit 16 (m .«chr_pages»)
   chr-at i h =
       let r = memory-in m e .ranged in
       omega (arith, r .chr i h .inside, pages-le (m .layout) (r .sized .layout))

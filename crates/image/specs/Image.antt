@@ -18,6 +18,7 @@ use Rattle.chip.specs.Namco163.{boardNum}
 use Rattle.state.specs.declared.State.{State}
 use Rattle.state.specs.Audio.{wholePart}
 
+-- "The image is 307 bytes"
 abbrev pub imageBytes : ℕ
 imageBytes = 307
 
@@ -114,12 +115,15 @@ unfoldable pub joined : List (List ℕ) → List ℕ
 joined [] = []
 joined (x ∷ xs) = x ++ joined xs
 
+-- the widths of all fields, in 01's order
 unfoldable pub widths : List ℕ
 widths = joined partWidths
 
+-- and a state's values for them
 unfoldable pub fields : State → List ℕ
 fields s = joined (partFields s)
 
+-- the image of a state: its fields "bit-packed, most significant first"
 unfoldable pub imageOf : State → List ℕ
 imageOf s = bytesOf imageBytes (pack widths (fields s))
 

@@ -12,6 +12,7 @@ use Rattle.image.specs.Image.{imageBytes, imageOf}
 abbrev pub imageCheck : ℕ → Check
 imageCheck len = record { number = 1; holds = not (eqb len imageBytes) }
 
+-- image writing is refused by 1, then 2
 abbrev pub writeChecks : State → ℕ → List Check
 writeChecks s len = imageCheck len ∷ stateCheck s ∷ []
 

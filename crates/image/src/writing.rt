@@ -1,14 +1,18 @@
 // A state to its image. The parts that start at a byte's start begin from their own place.
+use crate::pages::put_chr_pages;
+use crate::pages::put_prg_pages;
+use crate::words::banks_word;
+use crate::words::flags_word;
+use crate::words::kind_word;
+use crate::words::layout_word;
+use crate::words::port_word;
+use crate::words::regs_word;
 use bits::cursor::Cursor;
 use bits::cursor::put;
 use bits::cursor::put_bytes;
 use bits::cursor::put_run;
-use chip::namco163::Board;
 use chip::namco163::Namco163;
-use chip::namco163::Regs;
 use memory::Memory;
-use memory::mirroring::Mirroring;
-use memory::page::Page;
 use sound::audio::Audio;
 use state::State;
 use state::audio::whole_part;
@@ -16,86 +20,16 @@ use state::in_range;
 ghost use mathlib.Core.Path.{_≡_};
 ghost use mathlib.Core.Bool.{true};
 ghost use mathlib.Core.List.{[], _∷_, map};
-ghost use Prim.Native.Nat.{ℕ, _+_, _*_, _^_, _<_, _≤_};
+ghost use Prim.Native.Nat.{_+_, _*_, _<_, _≤_};
 ghost use lib.Ieee.{binary32, toBits};
-ghost use lib.ListN.{length, getD, replicate};
-ghost use Rattle.bits.specs.Fields.{bit, pack, times, each};
+ghost use lib.ListN.{length, replicate};
 ghost use Rattle.bits.specs.Cursor.{Held, Wrote};
-ghost use Rattle.memory.specs.Layout.{GoodLayout};
-ghost use Rattle.memory.specs.Mirroring.{mirroringNum};
-ghost use Rattle.memory.specs.Page.{offsetOf, unmapped};
-ghost use Rattle.chip.specs.Namco163.{boardNum};
 ghost use Rattle.state.specs.Every.{every};
 ghost use Rattle.state.specs.State.{bankTest, inRange};
 ghost use Rattle.state.specs.Audio.{outOk, outputTest, phaseTest, audioOk};
 ghost use Rattle.state.specs.Tables.{memoryOk};
-ghost use Rattle.image.specs.Image.{imageBytes, chipWidths, chipFields, soundWidths, soundFields, levelNum, pageWidths, pageFields, layoutWidths, layoutFields, memoryWidths, memoryFields, joined, imageOf, byteAt};
+ghost use Rattle.image.specs.Image.{imageBytes, chipWidths, chipFields, soundWidths, soundFields, levelNum, memoryWidths, memoryFields, joined, imageOf, byteAt};
 ghost use Rattle.image.specs.Writing.{writeRefusal, writtenImage};
-
-// A yes/no in one bit.
-fn bit_of(b: bool) -> u64
-    ensures { λ r. ⌜ (r ≡ bit b) × (r < 2) ⌝ }
-{
-    if b { 1 } else { 0 }
-}
-
-fn mirroring_num(m: Mirroring) -> u8
-    ensures { λ r. ⌜ (r ≡ mirroringNum m) × (r < 5) ⌝ }
-{
-    match m {
-        Mirroring::Vertical => 0,
-        Mirroring::Horizontal => 1,
-        Mirroring::SingleScreenA => 2,
-        Mirroring::SingleScreenB => 3,
-        Mirroring::FourScreen => 4,
-    }
-}
-
-// The registers, the board and its numbers in 53 bits.
-fn regs_word(regs: Regs, board: Board, mapper: u16, submapper: u8) -> u64
-    ensures { λ r. ⌜ r ≡ pack (16 ∷ 1 ∷ 1 ∷ 1 ∷ 8 ∷ 2 ∷ 16 ∷ 8 ∷ []) (regs .«irq_counter» ∷ bit (regs .«irq_pending») ∷ bit (regs .«nt_select_lo») ∷ bit (regs .«nt_select_hi») ∷ regs .«prg_ram_protect» ∷ boardNum board ∷ mapper ∷ submapper ∷ []) ⌝ }
-    ensures { λ r. ⌜ r < 2 ^ 53 ⌝ }
-{
-    let pending = bit_of(regs.irq_pending);
-    let lo = bit_of(regs.nt_select_lo);
-    let hi = bit_of(regs.nt_select_hi);
-    let counter = (regs.irq_counter as u64) * 8 + pending * 4 + lo * 2 + hi;
-    let kind = (regs.prg_ram_protect as u64) * 4 + (board.num() as u64);
-    ((counter * 1024 + kind) * 65536 + (mapper as u64)) * 256 + (submapper as u64)
-}
-
-// Detection, mirroring and the written flag in 5 bits.
-fn kind_word(detecting: bool, mirroring: Mirroring, written: bool) -> u64
-    ensures { λ r. ⌜ r ≡ pack (1 ∷ 3 ∷ 1 ∷ []) (bit detecting ∷ mirroringNum mirroring ∷ bit written ∷ []) ⌝ }
-    ensures { λ r. ⌜ r < 2 ^ 5 ⌝ }
-{
-    let d = bit_of(detecting);
-    let m = mirroring_num(mirroring);
-    let w = bit_of(written);
-    d * 16 + (m as u64) * 2 + w
-}
-
-// The twelve CIRAM flags in 12 bits.
-fn flags_word(flags: [bool; 12]) -> u64
-    ensures { λ r. ⌜ (r ≡ pack (replicate 12 1) (map bit flags)) × (r < 2 ^ 12) ⌝ }
-{
-    let mut word: u64 = 0;
-    let mut i: usize = 0;
-    while i < 12 {
-        let flag = flags[i];
-        word = word * 2 + bit_of(flag);
-        i += 1;
-    }
-    word
-}
-
-// The three PRG banks in 18 bits.
-fn banks_word(banks: [u8; 3]) -> u64
-    requires { ⌜ (getD banks 0 0 ≤ 63) × (getD banks 1 0 ≤ 63) × (getD banks 2 0 ≤ 63) ⌝ }
-    ensures { λ r. ⌜ (r ≡ pack (replicate 3 6) banks) × (r < 2 ^ 18) ⌝ }
-{
-    ((banks[0] as u64) * 64 + (banks[1] as u64)) * 64 + (banks[2] as u64)
-}
 
 // The twelve CHR banks, a byte each, from any bit on.
 fn put_chr_banks(img: &mut [u8], w: Cursor, banks: [u8; 12]) -> Cursor
@@ -111,107 +45,6 @@ fn put_chr_banks(img: &mut [u8], w: Cursor, banks: [u8; 12]) -> Cursor
         i += 1;
     }
     c
-}
-
-// The sound port and the sound clock in 16 bits.
-fn port_word(addr: usize, auto: bool, disabled: bool, counter: u8, channel: u8) -> u64
-    requires { ⌜ (addr ≤ 127) × (counter ≤ 14) × (channel ≤ 7) ⌝ }
-    ensures { λ r. ⌜ r ≡ pack (7 ∷ 1 ∷ 1 ∷ 4 ∷ 3 ∷ []) (addr ∷ bit auto ∷ bit disabled ∷ counter ∷ channel ∷ []) ⌝ }
-    ensures { λ r. ⌜ r < 2 ^ 16 ⌝ }
-{
-    let a = bit_of(auto);
-    let d = bit_of(disabled);
-    (addr as u64) * 512 + a * 256 + d * 128 + (counter as u64) * 8 + (channel as u64)
-}
-
-// A page entry in 11 bits.
-fn page_word(p: Page) -> u64
-    requires { ⌜ offsetOf p < 1048576 ⌝ }
-    ensures { λ r. ⌜ (r ≡ pack pageWidths (pageFields p)) × (r < 2 ^ 11) ⌝ }
-{
-    let w = bit_of(p.is_writable());
-    (p.offset() as u64) / 1024 * 2 + w
-}
-
-// The page counts, the CHR-RAM flag and whether the reserve is used in 32 bits.
-fn layout_word(m: Memory) -> u64
-    requires { ⌜ GoodLayout (m .layout) ⌝ }
-    ensures { λ r. ⌜ (r ≡ pack layoutWidths (layoutFields m)) × (r < 2 ^ 32) ⌝ }
-{
-    let l = m.layout;
-    let ram = bit_of(l.chr_writable);
-    let used = bit_of(m.battery_ext_len == 128);
-    let prg = ((l.prg_rom as u64) * 128 + (l.prg_ram as u64)) * 2 + (l.battery_ext as u64);
-    ((prg * 512 + (l.chr as u64)) * 2 + ram) * 16 + (l.ciram as u64) * 2 + used
-}
-
-// Four entries in 44 bits.
-fn quad_word(p: Page, q: Page, r: Page, s: Page) -> u64
-    requires { ⌜ (offsetOf p < 1048576) × (offsetOf q < 1048576) × (offsetOf r < 1048576) × (offsetOf s < 1048576) ⌝ }
-    ensures { λ w. ⌜ (w ≡ pack (times 4 pageWidths) (each pageFields (p ∷ q ∷ r ∷ s ∷ []))) × (w < 2 ^ 44) ⌝ }
-{
-    let a = page_word(p);
-    let b = page_word(q);
-    let c = page_word(r);
-    let d = page_word(s);
-    ((a * 2048 + b) * 2048 + c) * 2048 + d
-}
-
-// Each table goes by eight entries, which are 11 bytes.
-fn put_prg_pages(img: &mut [u8], pages: [Page; 64])
-    requires { ⌜ length (now img) ≡ imageBytes ⌝ }
-    requires { ⌜ ((i : ℕ) → i < 64 → offsetOf (getD pages i unmapped) < 1048576) ⌝ }
-    ensures { λ _. ⌜ Wrote (now (img .entry)) (now (img .exit)) (byteAt 193) (byteAt 281) (times 64 pageWidths) (each pageFields pages) ⌝ }
-{
-    let mut k: usize = 0;
-    while k < 8 {
-        let i = k * 8;
-        let p = pages[i];
-        let q = pages[i + 1];
-        let r = pages[i + 2];
-        let s = pages[i + 3];
-        let c = Cursor {
-            acc: 0,
-            n: 0,
-            at: 193 + k * 11,
-        };
-        let d = put(img, c, 44, quad_word(p, q, r, s));
-        let j = i + 4;
-        let t = pages[j];
-        let u = pages[j + 1];
-        let v = pages[j + 2];
-        let x = pages[j + 3];
-        put(img, d, 44, quad_word(t, u, v, x));
-        k += 1;
-    }
-}
-
-fn put_chr_pages(img: &mut [u8], pages: [Page; 16])
-    requires { ⌜ length (now img) ≡ imageBytes ⌝ }
-    requires { ⌜ ((i : ℕ) → i < 16 → offsetOf (getD pages i unmapped) < 1048576) ⌝ }
-    ensures { λ _. ⌜ Wrote (now (img .entry)) (now (img .exit)) (byteAt 281) (byteAt 303) (times 16 pageWidths) (each pageFields pages) ⌝ }
-{
-    let mut k: usize = 0;
-    while k < 2 {
-        let i = k * 8;
-        let p = pages[i];
-        let q = pages[i + 1];
-        let r = pages[i + 2];
-        let s = pages[i + 3];
-        let c = Cursor {
-            acc: 0,
-            n: 0,
-            at: 281 + k * 11,
-        };
-        let d = put(img, c, 44, quad_word(p, q, r, s));
-        let j = i + 4;
-        let t = pages[j];
-        let u = pages[j + 1];
-        let v = pages[j + 2];
-        let x = pages[j + 3];
-        put(img, d, 44, quad_word(t, u, v, x));
-        k += 1;
-    }
 }
 
 // The channel outputs as whole numbers.

@@ -12,11 +12,12 @@ use Rattle.bits.specs.Words.{wordOf}
 use Rattle.state.specs.declared.State.{State}
 use Rattle.state.specs.State.{inRange}
 use Rattle.refusals.specs.Refusals.{firstOf}
-use Rattle.cartridge.specs.Load.{noState}
+use Rattle.cartridge.specs.Cartridge.{noState}
 use Rattle.image.specs.Image.{imageBytes, part, joined, chipWidths}
 use Rattle.image.proofs.Ranges.{state-facts, sound-facts}
-use Rattle.image_read.specs.declared.Head.{Head}
-use Rattle.image_read.specs.Reading.{stateFrom, stateOf, fieldsOk, fieldsOf, fieldsAt, headParts, chipOf, soundAt, memoryAt, readImage}
+use Rattle.image_read.specs.declared.reading.Head.{Head}
+use Rattle.image_read.specs.Reading.{stateFrom, stateOf, fieldsOk, fieldsOf, readImage}
+use Rattle.image_read.specs.Sections.{fieldsAt, headParts, chipOf, soundAt, memoryAt}
 use Rattle.image_read.specs.Typed.{Bytes}
 use Rattle.image_read.proofs.Fields.{out-at}
 use Rattle.image_read.proofs.Out.{out-most}
@@ -40,25 +41,32 @@ accepted img l e = rw (eq-eqb (length img) 307 l, e)
 
 -- ---- the state of an image
 
-module _ (img : List ℕ) (long : length img ≡ imageBytes) (bs : Bytes img) (h : Head) (head : fieldsAt (joined chipWidths) img 0 23 ≡ joined (headParts h))
-    (bits : ℕ) (is : bits ≡ wordOf (take 4 (drop 165 img))) (small : bits < 2 ^ 32) where
+-- an image of 307 bytes, its board's words and the bits of its `out`
+pub record Opened (img : List ℕ) (h : Head) (bits : ℕ) : Type 0 where
+  pub long : length img ≡ imageBytes
+  pub bytes : Bytes img
+  pub head : fieldsAt (joined chipWidths) img 0 23 ≡ joined (headParts h)
+  pub out : bits ≡ wordOf (take 4 (drop 165 img))
+  pub small : bits < 2 ^ 32
+
+module _ (img : List ℕ) (h : Head) (bits : ℕ) (o : Opened img h bits) where
   abbrev held : State
   held = record { chip = chipOf h (soundAt img bits); memory = memoryAt img }
 
   pub state-is : stateOf (fieldsOf img) ≡ held
   unfolding stateOf stateFrom soundAt memoryAt
-  state-is = rw (image-parts img long bs h head, out-at img bits is small)
+  state-is = rw (image-parts img (o .long) (o .bytes) h (o .head), out-at img bits (o .out) (o .small))
 
   ok-is : fieldsOk (fieldsOf img) ≡ leb (h .kind / 2 % 8) 4 && inRange held
   unfolding fieldsOk unpack total
   ok-is = ap₂ (λ (p : List (List ℕ)) (s : State). leb (getD (part p 1) 1 0) 4 && inRange s)
-      (image-parts img long bs h head) state-is
+      (image-parts img (o .long) (o .bytes) h (o .head)) state-is
 
   pub refused-mirroring : 4 < h .kind / 2 % 8 → readImage img ≡ record { refusal = 2; state = noState }
-  refused-mirroring l = refused-fields img long (ok-is ∙ rw (lt-leb (h .kind / 2 % 8) 4 l))
+  refused-mirroring l = refused-fields img (o .long) (ok-is ∙ rw (lt-leb (h .kind / 2 % 8) 4 l))
 
   pub refused-range : inRange held ≡ false → readImage img ≡ record { refusal = 2; state = noState }
-  refused-range e = refused-fields img long
+  refused-range e = refused-fields img (o .long)
       (ok-is ∙ ap (λ (t : Bool). leb (h .kind / 2 % 8) 4 && t) e ∙ and-no (leb (h .kind / 2 % 8) 4))
     where
       and-no : (b : Bool) → b && false ≡ false
@@ -70,10 +78,10 @@ module _ (img : List ℕ) (long : length img ≡ imageBytes) (bs : Bytes img) (h
   refused-out l = refused-range (go (inRange held) refl)
     where
       go : (t : Bool) → inRange held ≡ t → inRange held ≡ false
-      go true e = absurd (let m = out-most bits small
+      go true e = absurd (let m = out-most bits (o .small)
           (sound-facts (held .chip .audio) (state-facts held e .audio) .out) in omega arith)
       go false e = e
 
   pub accepted-state : h .kind / 2 % 8 ≤ 4 → inRange held ≡ true → readImage img ≡ record { refusal = 0; state = held }
-  accepted-state m e = accepted img long (ok-is ∙ rw (le-leb (h .kind / 2 % 8) 4 m, e))
+  accepted-state m e = accepted img (o .long) (ok-is ∙ rw (le-leb (h .kind / 2 % 8) 4 m, e))
       ∙ ap (λ (s : State). record { refusal = 0; state = s }) state-is

@@ -1,16 +1,15 @@
--- Laws of the fields' values: numbers to boards and mirrorings, and lists of a known length.
+-- Laws of the fields' values: numbers to boards and mirrorings, and the fields of one word.
 use mathlib.Core.Path.{_≡_, refl}
 use mathlib.Core.List.{List, [], _∷_}
 use Prim.Native.Nat.{ℕ, zero, suc, _/_, _%_, _^_, _<_}
 use native.Mathlib.Nat.{div-one, mod-eq-of-lt}
-use native.Mathlib.Omega.{arith}
-use lib.Pow.{pow-pos}
-use lib.ListN.{length, getD, take, drop, replicate}
-use Rattle.bits.specs.Fields.{total, unpack, Fit}
+use lib.ListN.{take, drop}
+use Rattle.bits.specs.Fields.{total, unpack}
 use Rattle.bits.specs.Words.{wordOf}
 use Rattle.chip.specs.declared.namco163.Board.the-variants.{Namco340}
 use Rattle.memory.specs.declared.mirroring.Mirroring.the-variants.{FourScreen}
-use Rattle.image_read.specs.Reading.{boardOf, mirroringOf, fieldsAt}
+use Rattle.image_read.specs.Reading.{boardOf, mirroringOf}
+use Rattle.image_read.specs.Sections.{fieldsAt}
 use Rattle.image.specs.Image.{part, soundWidths, memoryWidths}
 
 pub board-else : (n : ℕ) → (n ≡ 0 → ⊥) → (n ≡ 1 → ⊥) → (n ≡ 2 → ⊥) → Namco340 ≡ boardOf n
@@ -25,20 +24,6 @@ mirroring-else (suc zero) a b c d = absurd (b refl)
 mirroring-else (suc (suc zero)) a b c d = absurd (c refl)
 mirroring-else (suc (suc (suc zero))) a b c d = absurd (d refl)
 mirroring-else (suc (suc (suc (suc n)))) a b c d = refl
-
--- a list of eight
-pub eight : {A : Type 0} (o : A) (xs : List A) → length xs ≡ 8
-    → xs ≡ getD xs 0 o ∷ getD xs 1 o ∷ getD xs 2 o ∷ getD xs 3 o ∷ getD xs 4 o ∷ getD xs 5 o ∷ getD xs 6 o ∷ getD xs 7 o ∷ []
-eight o (a ∷ b ∷ c ∷ d ∷ e ∷ f ∷ g ∷ h ∷ []) l = refl
-eight o (a ∷ b ∷ c ∷ d ∷ e ∷ f ∷ g ∷ h ∷ i ∷ xs) l = absurd (let z : ⊥ = omega arith in z)
-eight o [] l = absurd (let z : ⊥ = omega arith in z)
-eight o (a ∷ []) l = absurd (let z : ⊥ = omega arith in z)
-eight o (a ∷ b ∷ []) l = absurd (let z : ⊥ = omega arith in z)
-eight o (a ∷ b ∷ c ∷ []) l = absurd (let z : ⊥ = omega arith in z)
-eight o (a ∷ b ∷ c ∷ d ∷ []) l = absurd (let z : ⊥ = omega arith in z)
-eight o (a ∷ b ∷ c ∷ d ∷ e ∷ []) l = absurd (let z : ⊥ = omega arith in z)
-eight o (a ∷ b ∷ c ∷ d ∷ e ∷ f ∷ []) l = absurd (let z : ⊥ = omega arith in z)
-eight o (a ∷ b ∷ c ∷ d ∷ e ∷ f ∷ g ∷ []) l = absurd (let z : ⊥ = omega arith in z)
 
 -- ---- the fields of one word
 
@@ -57,10 +42,3 @@ module _ (img : List ℕ) (w : ℕ) where
       ≡ w / 0x400000 % 1024 ∷ w / 0x8000 % 128 ∷ w / 0x4000 % 2 ∷ w / 32 % 512 ∷ w / 16 % 2 ∷ w / 2 % 8 ∷ w % 2 ∷ []
   unfolding fieldsAt unpack total
   layout-at e = rw (← e, div-one w)
-
--- fields of w bits are below 2 to the w, beyond the last too
-pub fit-below : (n w : ℕ) (xs : List ℕ) → Fit (replicate n w) xs → (i : ℕ) → getD xs i 0 < 2 ^ w
-fit-below n w [] f i = pow-pos w
-fit-below zero w (x ∷ xs) f i = absurd f
-fit-below (suc n) w (x ∷ xs) f zero = f .0
-fit-below (suc n) w (x ∷ xs) f (suc i) = fit-below n w xs (f .1) i

@@ -1,7 +1,7 @@
 -- RoundTrip has the promises. The other files are the laws that they and the proofs of src/ rest on.
 pub mod Fields
+pub mod Parts
 pub mod Sections
-pub mod Pages
 pub mod Out
 pub mod Accepted
 pub mod Values

@@ -23,8 +23,9 @@ use Rattle.image.proofs.Whole.{total-widths}
 use Rattle.image_read.specs.Reading.{cutInto, stateOf, fieldsOk, fieldsOf, readChecks, readImage}
 use Rattle.image_read.specs.Typed.{Bytes, Typed}
 use Rattle.image_read.proofs.Accepted.{accepted}
+use Rattle.image_read.proofs.Parts.{fit-joined, same-lengths}
 use Rattle.image_read.proofs.Sections.{cut-joined}
-use Rattle.image_read.proofs.States.{fit-joined, same-lengths, state-back, state-fits, fields-num}
+use Rattle.image_read.proofs.States.{state-back, state-fits, fields-num}
 use Rattle.image_read.proofs.Values.{mirroring-most}
 
 -- ---- what is accepted

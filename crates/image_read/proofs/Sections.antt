@@ -1,7 +1,7 @@
 -- Laws of the parts of an image: what a reader finds in some bytes is the fields of those bytes, and all parts together are the image's fields.
 use mathlib.Core.Path.{_≡_, refl, sym, ap, ap₂, _∙_, subst}
 use mathlib.Core.List.{List, [], _∷_, _++_}
-use Prim.Native.Nat.{ℕ, _+_, _-_, _*_, _^_, _≤_, _<_}
+use Prim.Native.Nat.{ℕ, _+_, _*_, _^_, _≤_, _<_}
 use native.Mathlib.Nat.{div-one, mod-one}
 use native.Mathlib.Omega.{arith}
 use lib.ListN.{length, take, drop, length-drop}
@@ -14,10 +14,11 @@ use Rattle.bits.proofs.Fields.{pack-lt, pack-unpack, unpack-pack, fit-unpack, l
 use Rattle.bits.proofs.words.Laws.{total-eights, word-append}
 use Rattle.bits.proofs.cursor.Laws.{read-append, read-none, finish-read, bytes-read}
 use Rattle.image.specs.Image.{imageBytes, part, joined, chipWidths, soundWidths, memoryWidths, partWidths, widths, byteAt}
-use Rattle.image.proofs.Parts.{SameLengths, joined-append}
+use Rattle.image.proofs.Parts.{_then_, SameLengths, joined-append}
 use Rattle.image.proofs.Whole.{total-widths}
-use Rattle.image_read.specs.declared.Head.{Head}
-use Rattle.image_read.specs.Reading.{cutInto, fieldsOf, fieldsAt, headParts}
+use Rattle.image_read.specs.declared.reading.Head.{Head}
+use Rattle.image_read.specs.Reading.{cutInto, fieldsOf}
+use Rattle.image_read.specs.Sections.{fieldsAt, headParts}
 use Rattle.image_read.specs.Typed.{Bytes}
 
 -- ---- the fields of some bytes
@@ -63,8 +64,8 @@ module _ (img : List ℕ) (a k : ℕ) (inside : a + k ≤ length img) where
 
 -- ---- parts one behind the other
 
-pub read-part : (img : List ℕ) (p q r : Cursor) (ws vs : List ℕ) (wss vss : List (List ℕ)) → Read img p q ws vs → Read img q r
-    (joined wss) (joined vss)
+pub read-part : (img : List ℕ) (p q r : Cursor) (ws vs : List ℕ) (wss vss : List (List ℕ)) → Read img p q ws vs
+    → Read img q r (joined wss) (joined vss)
     → Read img p r (joined (ws ∷ wss)) (joined (vs ∷ vss))
 unfolding joined
 read-part img p q r ws vs wss vss f g = read-append img p q r ws vs (joined wss) (joined vss) f g
@@ -143,25 +144,16 @@ module _ (img : List ℕ) (long : length img ≡ imageBytes) (bs : Bytes img) wh
       (read-end img (byteAt 307) (byte-behind img 307)))))))))
 
   same-rest : SameLengths (soundWidths ++ memoryWidths) rest
-  same-rest = (
-    long-at (part soundWidths 0) img 23 128,
-    (
-      long-at (part soundWidths 1) img 151 2,
-      (
-        long-at (part soundWidths 2) img 153 12,
-        (
-          long-at (part soundWidths 3) img 165 4,
-          (
-            long-at (part soundWidths 4) img 169 24,
-            (
-              long-at (part memoryWidths 0) img 193 88,
-              (long-at (part memoryWidths 1) img 281 22, (long-at (part memoryWidths 2) img 303 4, tt)),
-            ),
-          ),
-        ),
-      ),
-    ),
-  )
+  same-rest =
+      long-at (part soundWidths 0) img 23 128
+      then long-at (part soundWidths 1) img 151 2
+      then long-at (part soundWidths 2) img 153 12
+      then long-at (part soundWidths 3) img 165 4
+      then long-at (part soundWidths 4) img 169 24
+      then long-at (part memoryWidths 0) img 193 88
+      then long-at (part memoryWidths 1) img 281 22
+      then long-at (part memoryWidths 2) img 303 4
+      then tt
 
   -- the image's fields in parts, given the board's
   module _ (h : Head) (head : fieldsAt (joined chipWidths) img 0 23 ≡ joined (headParts h)) where
@@ -177,7 +169,7 @@ module _ (img : List ℕ) (long : length img ≡ imageBytes) (bs : Bytes img) wh
 
     same-parts : SameLengths partWidths (headParts h ++ rest)
     unfolding unpack
-    same-parts = (refl, (refl, (refl, (refl, (refl, same-rest)))))
+    same-parts = refl then refl then refl then refl then refl then same-rest
 
     pub image-parts : cutInto partWidths (fieldsOf img) ≡ headParts h ++ rest
     image-parts = ap (cutInto partWidths) fields-are ∙ cut-joined partWidths (headParts h ++ rest) same-parts

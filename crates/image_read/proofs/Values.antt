@@ -110,8 +110,8 @@ page-back n p h e =
     zero-of (suc zero) l n = absurd (n refl)
     zero-of (suc (suc k)) l n = absurd (let z : ⊥ = omega arith in z)
 
-    go : (p .0 / 2 ^ 30 % 2 ≡ 1 → ⊥) → p .0 % 2 ^ 30 % 1024 ≡ 0 → (w : Bool) → writableOf p ≡ w → pick w (2 ^ 31) 0 + 1024 *
-        (offsetOf p / 1024) % 2 ^ 30 ≡ p .0
+    go : (p .0 / 2 ^ 30 % 2 ≡ 1 → ⊥) → p .0 % 2 ^ 30 % 1024 ≡ 0 → (w : Bool) → writableOf p ≡ w
+        → pick w (2 ^ 31) 0 + 1024 * (offsetOf p / 1024) % 2 ^ 30 ≡ p .0
     go c s true q =
         let z = zero-of (p .0 / 2 ^ 30 % 2) (omega arith) c in
         ap (λ (x : ℕ). 2 ^ 31 + x) (start s) ∙ omega (arith, bits 0 1 z (eqb-true (p .0 / 2 ^ 31 % 2) 1 q))

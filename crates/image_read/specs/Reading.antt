@@ -1,11 +1,11 @@
 -- Image reading: the state that an image's fields make, and which images are accepted.
-use Prim.Native.Nat.{ℕ, zero, suc, _*_, _^_, _<_}
+use Prim.Native.Nat.{ℕ, zero, suc, _*_}
 use mathlib.Core.Bool.{Bool, not, _&&_}
-use mathlib.Core.List.{List, [], _∷_, _++_, map}
+use mathlib.Core.List.{List, [], _∷_, map}
 use lib.Dec.{eqb, leb}
 use lib.Ieee.{binary32, ofBits}
-use lib.ListN.{length, getD, take, drop, replicate}
-use Rattle.bits.specs.Fields.{unpack, times}
+use lib.ListN.{length, getD, take, drop}
+use Rattle.bits.specs.Fields.{unpack}
 use Rattle.bits.specs.Words.{wordOf}
 use Rattle.memory.specs.declared.Memory.{Memory}
 use Rattle.memory.specs.declared.mirroring.Mirroring.{Mirroring}
@@ -21,15 +21,14 @@ use Rattle.chip.specs.declared.namco163.Regs.{Regs}
 use Rattle.state.specs.declared.State.{State}
 use Rattle.state.specs.State.{inRange}
 use Rattle.refusals.specs.Refusals.{Check, firstOf, ifAccepted}
-use Rattle.cartridge.specs.Load.{noState}
-use Rattle.image_read.specs.declared.ReadImage.{ReadImage}
-use Rattle.image_read.specs.declared.Eight.{Eight}
-use Rattle.image_read.specs.declared.Head.{Head}
-use Rattle.image.specs.Image.{part, pageWidths, chipWidths, soundWidths, memoryWidths, partWidths, widths}
+use Rattle.cartridge.specs.Cartridge.{noState}
+use Rattle.image_read.specs.declared.reading.ReadImage.{ReadImage}
+use Rattle.image.specs.Image.{part, partWidths, widths}
 use Rattle.image.specs.Writing.{imageCheck}
 
 -- ---- fields back to what they were made of
 
+-- a yes/no of its bit
 abbrev pub yes : ℕ → Bool
 yes v = eqb v 1
 
@@ -61,6 +60,7 @@ unfoldable pub cutInto : List (List ℕ) → List ℕ → List (List ℕ)
 cutInto [] vs = []
 cutInto (p ∷ ps) vs = take (length p) vs ∷ cutInto ps (drop (length p) vs)
 
+-- the sound of its five parts: RAM, port and sound clock, outputs, `out`, phases
 abbrev pub audioFrom : List ℕ → List ℕ → List ℕ → List ℕ → List ℕ → Audio
 audioFrom ram port outputs out phases =
     record {
@@ -75,6 +75,7 @@ audioFrom ram port outputs out phases =
       «phase_ext» = phases;
     }
 
+-- "counter 16, pending 1, selects low, high 1+1, protect 8"
 abbrev pub regsFrom : List ℕ → Regs
 regsFrom regs =
     record {
@@ -85,6 +86,7 @@ regsFrom regs =
       «prg_ram_protect» = getD regs 4 0;
     }
 
+-- the board of its five parts: registers and board numbers, kind, CIRAM flags, CHR banks, PRG banks; and its sound
 abbrev pub chipFrom : List ℕ → List ℕ → List ℕ → List ℕ → List ℕ → Audio → Namco163
 chipFrom regs kind flags chr prg audio =
     record {
@@ -101,6 +103,7 @@ chipFrom regs kind flags chr prg audio =
       «prg_banks» = prg;
     }
 
+-- the memory of its three parts: PRG entries, CHR entries, layout
 abbrev pub memoryFrom : List ℕ → List ℕ → List ℕ → Memory
 memoryFrom prg chr layout =
     record {
@@ -118,6 +121,7 @@ memoryFrom prg chr layout =
       «chr_pages» = pagesOf chr;
     }
 
+-- the state of the thirteen parts
 unfoldable pub stateFrom : List (List ℕ) → State
 stateFrom ps =
     record {
@@ -127,6 +131,7 @@ stateFrom ps =
       memory = memoryFrom (part ps 10) (part ps 11) (part ps 12);
     }
 
+-- the state of all fields
 unfoldable pub stateOf : List ℕ → State
 stateOf vs = stateFrom (cutInto partWidths vs)
 
@@ -145,6 +150,7 @@ fieldsOf img = unpack widths (wordOf img)
 abbrev pub fieldsCheck : List ℕ → Check
 fieldsCheck vs = record { number = 2; holds = not (fieldsOk vs) }
 
+-- image reading is refused by 1, then 2
 abbrev pub readChecks : List ℕ → List Check
 readChecks img = imageCheck (length img) ∷ fieldsCheck (fieldsOf img) ∷ []
 
@@ -153,45 +159,3 @@ unfoldable pub readImage : List ℕ → ReadImage
 readImage img =
     let q = firstOf (readChecks img) in
     ifAccepted q (record { refusal = 0; state = stateOf (fieldsOf img) }) (record { refusal = q; state = noState })
-
--- ---- the parts as they lie in the image's bytes
-
--- the fields of widths ws in the k bytes from a place on
-unfoldable pub fieldsAt : List ℕ → List ℕ → ℕ → ℕ → List ℕ
-fieldsAt ws img at k = unpack ws (wordOf (take k (drop at img)))
-
--- the fields of eight entries, of the words that hold them
-abbrev pub eightFields : Eight → List ℕ
-eightFields w = unpack (times 4 pageWidths) (w .first) ++ unpack (times 4 pageWidths) (w .last)
-
--- the board's parts, of the words that hold them
-abbrev pub headParts : Head → List (List ℕ)
-headParts h =
-    unpack (part chipWidths 0) (h .regs)
-    ∷ unpack (part chipWidths 1) (h .kind)
-    ∷ unpack (part chipWidths 2) (h .flags)
-    ∷ (unpack (replicate 6 8) (h .«chr_first») ++ unpack (replicate 6 8) (h .«chr_last»))
-    ∷ unpack (part chipWidths 4) (h .prg)
-    ∷ []
-
--- no word holds more than its bits
-pub record HeadFits (h : Head) : Type 0 where
-  pub regs : h .regs < 2 ^ 53
-  pub kind : h .kind < 2 ^ 5
-  pub flags : h .flags < 2 ^ 12
-  pub first : h .«chr_first» < 2 ^ 48
-  pub last : h .«chr_last» < 2 ^ 48
-  pub prg : h .prg < 2 ^ 18
-
--- the sound, given the bits of `out`
-unfoldable pub soundAt : List ℕ → ℕ → Audio
-soundAt img bits =
-    audioFrom (fieldsAt (part soundWidths 0) img 23 128) (fieldsAt (part soundWidths 1) img 151 2) (fieldsAt (part soundWidths 2) img 153 12) (bits ∷ [])
-    (fieldsAt (part soundWidths 4) img 169 24)
-
-unfoldable pub memoryAt : List ℕ → Memory
-memoryAt img =
-    memoryFrom (fieldsAt (part memoryWidths 0) img 193 88) (fieldsAt (part memoryWidths 1) img 281 22) (fieldsAt (part memoryWidths 2) img 303 4)
-
-abbrev pub chipOf : Head → Audio → Namco163
-chipOf h audio = let p = headParts h in chipFrom (part p 0) (part p 1) (part p 2) (part p 3) (part p 4) audio

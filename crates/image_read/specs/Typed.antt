@@ -12,6 +12,7 @@ use Rattle.sound.specs.Range.{Typed as AudioTyped}
 use Rattle.chip.specs.declared.namco163.Namco163.{Namco163}
 use Rattle.state.specs.declared.State.{State}
 
+-- bytes of 8 bits
 abbrev pub Bytes : List ℕ → Type 0
 Bytes xs = (i : ℕ) → getD xs i 0 < 2 ^ 8
 

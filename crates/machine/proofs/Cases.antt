@@ -14,7 +14,7 @@ use Rattle.chip.specs.Clock.{clockCounter}
 use Rattle.banking.specs.Banking.{mapSlot, mapSlots, mapChrTable, mapRom, mapWorkRam, updateBanks}
 use Rattle.refusals.specs.Refusals.{firstOf}
 use Rattle.namco163.specs.Calls.{writeRegister}
-use Rattle.cartridge.specs.Load.{memoryAtLoad, freshState, noState, loadAnswer}
+use Rattle.cartridge.specs.Cartridge.{memoryAtLoad, freshState, noState, loadAnswer}
 use Rattle.clocks.specs.Clock.{counterRun, counterRise}
 use Rattle.cut.specs.Counter.{moves, nextCounter, risesFrom}
 use Rattle.sound.specs.Channel.{nibbleAt, nextPhase, levelAt}

@@ -6,7 +6,7 @@ use lib.Dec.{eqb}
 use lib.ListN.{length}
 use Rattle.memory.specs.Layout.{layoutOf, arenaLen}
 use Rattle.state.proofs.Every.{was-true}
-use Rattle.cartridge.specs.Load.{loadAnswer, loadArena}
+use Rattle.cartridge.specs.Cartridge.{loadAnswer, loadArena}
 use Rattle.refusals.specs.Refusals.{loadChecks}
 use Rattle.refusals.proofs.Laws.{accepted-none}
 use Rattle.machine.specs.Start.{Loaded, loaded, zeroed}

@@ -17,7 +17,7 @@ use Rattle.chip.specs.Namco163.{withCounter}
 use Rattle.chip.specs.Reset.{noRegs}
 use Rattle.state.specs.declared.State.{State}
 use Rattle.namco163.specs.Calls.{writeRegister}
-use Rattle.cartridge.specs.Load.{freshState, loadAnswer}
+use Rattle.cartridge.specs.Cartridge.{freshState, loadAnswer}
 use Rattle.clocks.specs.Clock.{counterRun, counterRise}
 
 -- whether each line holds

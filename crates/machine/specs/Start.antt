@@ -6,7 +6,7 @@ use mathlib.Core.List.{List}
 use lib.ListN.{length, replicate}
 use Rattle.memory.specs.declared.layout.MemoryLayout.{MemoryLayout}
 use Rattle.memory.specs.Layout.{layoutOf, arenaLen}
-use Rattle.cartridge.specs.Load.{freshState, loadAnswer, loadArena}
+use Rattle.cartridge.specs.Cartridge.{freshState, loadAnswer, loadArena}
 use Rattle.refusals.specs.Refusals.{firstOf, loadChecks}
 use Rattle.machine.specs.Calls.{Held}
 

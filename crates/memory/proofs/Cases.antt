@@ -7,7 +7,7 @@ use mathlib.Core.List.{List, [], _∷_, _++_, map}
 use mathlib.Core.Option.{Option, some, none}
 use lib.Dec.{eqb}
 use lib.IntN.{ℤ, pos, negsuc}
-use lib.ListN.{take, drop}
+use lib.ListN.{take, drop, replicate}
 use Rattle.memory.specs.declared.Memory.{Memory}
 use Rattle.memory.specs.declared.layout.MemoryLayout.{MemoryLayout}
 use Rattle.memory.specs.declared.layout.Src.{Src}
@@ -25,34 +25,34 @@ use Rattle.memory.specs.Windows.{banksOf, windowBase, regionPage, eachPa
 -- ---- what a row says
 
 -- arena page k, without the flag and with it
-rom : ℕ → Page
+abbrev rom : ℕ → Page
 rom k = pageOf (1024 * k) false
 
-ram : ℕ → Page
+abbrev ram : ℕ → Page
 ram k = pageOf (1024 * k) true
 
 -- n pages from page k on
-from : (ℕ → Page) → ℕ → ℕ → List Page
+abbrev from : (ℕ → Page) → ℕ → ℕ → List Page
 from f k zero = []
 from f k (suc n) = f k ∷ from f (suc k) n
 
-same : List Page → List Page → Bool
+abbrev same : List Page → List Page → Bool
 same [] [] = true
 same [] (b ∷ m) = false
 same (a ∷ l) [] = false
 same (a ∷ l) (b ∷ m) = eqb (a .0) (b .0) && same l m
 
-every : {A : Type 0} → (A → Bool) → List A → Bool
+abbrev every : {A : Type 0} → (A → Bool) → List A → Bool
 every f [] = true
 every f (a ∷ l) = f a && every f l
 
 -- ---- the carts: layout P, and P with other sizes
 
-cart : ℕ → ℕ → ℕ → MemoryLayout
+abbrev cart : ℕ → ℕ → ℕ → MemoryLayout
 cart prgRom prgRam ciram =
     record { «prg_rom» = prgRom; «prg_ram» = prgRam; «battery_ext» = 128; chr = 8192; «chr_writable» = false; ciram = ciram }
 
-p : MemoryLayout
+abbrev p : MemoryLayout
 p = cart 32768 8192 2048
 
 -- ---- windows
@@ -65,27 +65,23 @@ record Window : Type 0 where
   src : Src
   shows : List Page
 
-prg : Window → Bool
-unfolding mapPrg newMemory unmappedMemory setMirroring mirrorPages nametablePage mapPages showPages eachPage regionPage windowBase banksOf layoutOf regionOf firstPage pagesBefore arenaOrder same
+abbrev prg : Window → Bool
 prg w =
     same (take 8 (drop (w .addr / 1024) (mapPrg (newMemory (w .cart)) (w .addr) 8192 (w .bank) (w .src) .«prg_pages»))) (w .shows)
 
-chr : Window → Bool
-unfolding mapChr newMemory unmappedMemory setMirroring mirrorPages nametablePage mapPages showPages eachPage regionPage windowBase banksOf layoutOf regionOf firstPage pagesBefore arenaOrder same
+abbrev chr : Window → Bool
 chr w =
     same (take 1 (drop (w .addr / 1024) (mapChr (newMemory (w .cart)) (w .addr) 1024 (w .bank) (w .src) .«chr_pages»))) (w .shows)
 
 -- 01, case 1: E000 holds page 25, and so does 8000 at bank 3F
-casesPrg : List Window
-unfolding rom from p cart
+abbrev casesPrg : List Window
 casesPrg =
     record { cart = p; addr = 0xE000; bank = negsuc 0; src = PrgRom; shows = from rom 25 8 }
     ∷ record { cart = p; addr = 0x8000; bank = pos 0x3F; src = PrgRom; shows = from rom 25 8 }
     ∷ []
 
 -- 01, cases 2 to 4: CHR 0 at bank 1 of CIRAM, and at banks E1 and DF of CHR
-casesChr : List Window
-unfolding rom ram p cart
+abbrev casesChr : List Window
 casesChr =
     record { cart = p; addr = 0; bank = pos 1; src = CiRam; shows = ram 51 ∷ [] }
     ∷ record { cart = p; addr = 0; bank = pos 0xE1; src = Chr; shows = rom 34 ∷ [] }
@@ -100,11 +96,10 @@ record Rom : Type 0 where
   bank3F : List Page
   last : List Page
 
-roms : List Rom
-unfolding rom from
+abbrev roms : List Rom
 roms =
-    all (0 ∷ []) (rom 0 ∷ rom 0 ∷ rom 0 ∷ rom 0 ∷ rom 0 ∷ rom 0 ∷ rom 0 ∷ rom 0 ∷ [])
-    ∷ all (1 ∷ []) (rom 1 ∷ rom 1 ∷ rom 1 ∷ rom 1 ∷ rom 1 ∷ rom 1 ∷ rom 1 ∷ rom 1 ∷ [])
+    all (0 ∷ []) (replicate 8 (rom 0))
+    ∷ all (1 ∷ []) (replicate 8 (rom 1))
     ∷ all (3 ∷ []) (from rom 1 3 ++ from rom 1 3 ++ from rom 1 2)
     ∷ all (7 ∷ []) (from rom 1 7 ++ from rom 1 1)
     ∷ all (8 ∷ 9 ∷ 12 ∷ 15 ∷ []) (from rom 1 8)
@@ -116,8 +111,7 @@ roms =
     all : List ℕ → List Page → Rom
     all pages l = record { pages = pages; bank1 = l; bank2 = l; bank3F = l; last = l }
 
-romRight : Rom → Bool
-unfolding prg cart every
+abbrev romRight : Rom → Bool
 romRight r =
     every (λ n. at n 0x8000 (pos 1) (r .bank1) && at n 0xA000 (pos 2) (r .bank2) && at n 0xC000 (pos 0x3F)
     (r .bank3F) && at n 0xE000 (negsuc 0) (r .last)) (r .pages)
@@ -130,17 +124,15 @@ record Ram : Type 0 where
   pages : List ℕ
   shows : List Page
 
-rams : List Ram
-unfolding ram from
+abbrev rams : List Ram
 rams =
-    record { pages = 1 ∷ []; shows = ram 41 ∷ ram 41 ∷ ram 41 ∷ ram 41 ∷ ram 41 ∷ ram 41 ∷ ram 41 ∷ ram 41 ∷ [] }
+    record { pages = 1 ∷ []; shows = replicate 8 (ram 41) }
     ∷ record { pages = 2 ∷ []; shows = from ram 41 2 ++ from ram 41 2 ++ from ram 41 2 ++ from ram 41 2 }
     ∷ record { pages = 3 ∷ []; shows = from ram 41 3 ++ from ram 41 3 ++ from ram 41 2 }
     ∷ record { pages = 8 ∷ 9 ∷ 16 ∷ 64 ∷ []; shows = from ram 41 8 }
     ∷ []
 
-ramRight : Ram → Bool
-unfolding prg cart every
+abbrev ramRight : Ram → Bool
 ramRight r =
     every (λ n. prg (record { cart = cart 32768 (1024 * n) 2048; addr = 0x6000; bank = pos 0; src = PrgRam; shows = r .shows }))
     (r .pages)
@@ -152,7 +144,7 @@ record Nametables : Type 0 where
   mirroring : Mirroring
   shows : List ℕ
 
-nametables : List Nametables
+abbrev nametables : List Nametables
 nametables =
     record { pages = 1; mirroring = FourScreen; shows = 0 ∷ 0 ∷ 0 ∷ 0 ∷ [] }
     ∷ record { pages = 2; mirroring = FourScreen; shows = 0 ∷ 1 ∷ 0 ∷ 1 ∷ [] }
@@ -165,16 +157,14 @@ nametables =
     ∷ record { pages = 2; mirroring = Horizontal; shows = 0 ∷ 0 ∷ 1 ∷ 1 ∷ [] }
     ∷ []
 
-nametablesRight : Nametables → Bool
-unfolding newMemory unmappedMemory setMirroring mirrorPages nametablePage mapPages showPages eachPage regionPage windowBase banksOf layoutOf regionOf firstPage pagesBefore arenaOrder cart ram same
+abbrev nametablesRight : Nametables → Bool
 nametablesRight n =
     same (drop 8 (setMirroring (unmappedMemory (cart 32768 8192 (1024 * n .pages))) (n .mirroring) .«chr_pages»))
     (map (λ k. ram (50 + k)) (n .shows ++ n .shows))
 
 -- ---- sizes: P has 52 pages, 53,248 bytes
 
-sizesRight : Bool
-unfolding arenaLen arenaPages pagesOfAll arenaOrder layoutOf p cart
+abbrev sizesRight : Bool
 sizesRight = eqb (arenaPages (layoutOf p)) 52 && eqb (arenaLen (layoutOf p)) 53248
 
 -- ---- places: where an offset of a region lies, for a used battery length; none in an empty region
@@ -186,8 +176,7 @@ record Place : Type 0 where
   offset : ℕ
   at : Option ℕ
 
-places : List Place
-unfolding p cart
+abbrev places : List Place
 places =
     record { cart = cart 1024 8192 2048; used = 128; src = PrgRom; offset = 5123; at = some 1027 }
     ∷ record { cart = cart 1024 8192 2048; used = 128; src = PrgRom; offset = 18446744073709551615; at = some 2047 }
@@ -197,14 +186,13 @@ places =
     ∷ record { cart = cart 32768 0 2048; used = 128; src = PrgRam; offset = 0; at = none }
     ∷ []
 
-samePlace : Option ℕ → Option ℕ → Bool
+abbrev samePlace : Option ℕ → Option ℕ → Bool
 samePlace none none = true
 samePlace none (some j) = false
 samePlace (some i) none = false
 samePlace (some i) (some j) = eqb i j
 
-placeRight : Place → Bool
-unfolding wrappedAt layoutOf regionOf firstPage pagesBefore arenaOrder samePlace
+abbrev placeRight : Place → Bool
 placeRight c = samePlace (wrappedAt (regionOf (layoutOf (c .cart)) (c .used) (c .src)) (c .offset)) (c .at)
 
 -- `sram` of P, and of P without PRG-RAM, with the whole sound RAM used or none of it
@@ -214,16 +202,14 @@ record Battery : Type 0 where
   start : ℕ
   len : ℕ
 
-batteries : List Battery
-unfolding p cart
+abbrev batteries : List Battery
 batteries =
     record { cart = p; used = 128; start = 41984; len = 8320 }
     ∷ record { cart = p; used = 0; start = 41984; len = 8192 }
     ∷ record { cart = cart 32768 0 2048; used = 128; start = 41984; len = 128 }
     ∷ []
 
-batteryRight : Battery → Bool
-unfolding sramOf layoutOf regionOf firstPage pagesBefore arenaOrder
+abbrev batteryRight : Battery → Bool
 batteryRight b =
     let m : Memory = record { layout = layoutOf (b .cart); «battery_ext_len» = b .used; «prg_pages» = []; «chr_pages» = [] } in
     eqb (sramOf m .start) (b .start) && eqb (sramOf m .len) (b .len)
@@ -231,7 +217,6 @@ batteryRight b =
 -- ---- the test over all rows
 
 pub right : Bool
-unfolding every prg chr romRight ramRight nametablesRight placeRight batteryRight sizesRight casesPrg casesChr roms rams nametables places batteries
 right =
     sizesRight
     && every prg casesPrg
@@ -243,5 +228,6 @@ right =
     && every batteryRight batteries
 
 pub cases : right ≡ true
-unfolding right
+unfolding right layoutOf arenaOrder pagesBefore pagesOfAll firstPage arenaPages arenaLen regionOf wrappedAt sramOf banksOf windowBase
+    regionPage eachPage showPages mapPages mapPrg mapChr nametablePage mirrorPages setMirroring unmappedMemory newMemory
 cases = refl

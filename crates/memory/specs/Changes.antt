@@ -13,6 +13,7 @@ use Rattle.memory.specs.Page.{pick}
 abbrev pub same : Page → Page → Bool
 same a b = eqb (a .0) (b .0)
 
+-- 1 where two entries differ
 abbrev pub differ : Page → Page → ℕ
 differ a b = pick (same a b) 0 1
 
@@ -34,6 +35,7 @@ lowestChanged [] new = 0
 lowestChanged (a ∷ old) [] = suc (length old)
 lowestChanged (a ∷ old) (b ∷ new) = pick (same a b) (suc (lowestChanged old new)) 0
 
+-- what a CPU write answers of each table: mask, count and lowest
 unfoldable pub prgChanges : List Page → List Page → PrgChanges
 prgChanges old new = record { mask = changed old new; count = countChanged old new; lowest = lowestChanged old new }
 

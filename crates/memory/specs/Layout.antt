@@ -53,6 +53,7 @@ pagesFor bytes = (bytes + 1023) / 1024
 abbrev pub ciramBytes : ℕ → ℕ
 ciramBytes bytes = pick (eqb bytes 0) 2048 bytes
 
+-- the page counts of the sizes that a host gives
 unfoldable pub layoutOf : MemoryLayout → Layout
 layoutOf s =
     record {
@@ -75,6 +76,7 @@ pub record GoodLayout (l : Layout) : Type 0 where
 
 -- ---- the arena's order
 
+-- the number of each region
 abbrev pub srcNum : Src → ℕ
 srcNum PrgRom = 0
 srcNum PrgRam = 1
@@ -90,6 +92,7 @@ onlyIf t s rest = pick t (s ∷ rest) rest
 unfoldable pub arenaOrder : Bool → List Src
 arenaOrder ram = PrgRom ∷ onlyIf (not ram) Chr (PrgRam ∷ BatteryExt ∷ onlyIf ram Chr (CiRam ∷ []))
 
+-- how many pages a region has
 abbrev pub pagesIn : Layout → Src → ℕ
 pagesIn l PrgRom = l .«prg_rom»
 pagesIn l PrgRam = l .«prg_ram»
@@ -102,6 +105,7 @@ unfoldable pub pagesBefore : Layout → Src → List Src → ℕ
 pagesBefore l s [] = 0
 pagesBefore l s (t ∷ rest) = pick (eqb (srcNum s) (srcNum t)) 0 (pagesIn l t + pagesBefore l s rest)
 
+-- how many pages a list of regions has
 unfoldable pub pagesOfAll : Layout → List Src → ℕ
 pagesOfAll l [] = 0
 pagesOfAll l (t ∷ rest) = pagesIn l t + pagesOfAll l rest
@@ -110,6 +114,7 @@ pagesOfAll l (t ∷ rest) = pagesIn l t + pagesOfAll l rest
 unfoldable pub firstPage : Layout → Src → ℕ
 firstPage l s = 1 + pagesBefore l s (arenaOrder (l .«chr_writable»))
 
+-- the whole arena, with the zero page: "P .. 52 pages, 53,248 bytes"
 unfoldable pub arenaPages : Layout → ℕ
 arenaPages l = 1 + pagesOfAll l (arenaOrder (l .«chr_writable»))
 

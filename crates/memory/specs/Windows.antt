@@ -14,9 +14,11 @@ use Rattle.memory.specs.Page.{pick, unmapped, pageOf, offsetOf}
 
 -- ---- banks: "banks = max(1, len / s), base = (b modulo banks, never negative) times s"
 
+-- how many whole windows fit
 abbrev pub wholeBanks : ℕ → ℕ → ℕ
 wholeBanks len s = len / s
 
+-- at least one
 unfoldable pub banksOf : ℕ → ℕ → ℕ
 banksOf len s = max 1 (wholeBanks len s)
 
@@ -25,11 +27,13 @@ abbrev pub modulo : ℤ → ℕ → ℕ
 modulo (pos k) n = k % n
 modulo (negsuc k) n = n - 1 - k % n
 
+-- where bank b begins in a region of len bytes
 unfoldable pub windowBase : ℕ → ℕ → ℤ → ℕ
 windowBase len s b = modulo b (banksOf len s) * s
 
 -- ---- pages: "page i = start + (base + 1,024 times i) modulo len .. An empty region gives unmapped"
 
+-- the page at offset o of a region
 unfoldable pub regionPage : Region → ℕ → Page
 regionPage r o = pick (eqb (r .len) 0) unmapped (pageOf (r .start + o % r .len) (r .writable))
 
@@ -65,9 +69,11 @@ showPages k r base s slot = eachPage k (λ i old. regionPage r (base + 1024 * i)
 unfoldable pub mapPages : ℕ → Region → ℕ → ℤ → ℕ → List Page → List Page
 mapPages k r s b = showPages k r (windowBase (r .len) s b) s
 
+-- the window shows nothing: its entries are unmapped
 unfoldable pub unmapPages : ℕ → ℕ → ℕ → List Page → List Page
 unmapPages k s slot = eachPage k (λ i old. unmapped) slot (s / 1024)
 
+-- the window's entries take the flag w
 unfoldable pub setWritable : ℕ → ℕ → Bool → ℕ → List Page → List Page
 setWritable k s w slot = eachPage k (λ i old. withFlag w old) slot (s / 1024)
 

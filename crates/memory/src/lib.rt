@@ -9,12 +9,12 @@ ghost use Rattle.memory.specs.Layout.{withinLimits};
 ghost use Rattle.memory.specs.Memory.{Sized};
 ghost use Rattle.memory.specs.New.{newMemory};
 
-pub mod bytes;
-pub mod changes;
-pub mod layout;
-pub mod mirroring;
-pub mod page;
-pub mod windows;
+pub mod bytes; // bytes.rt: reads and stores through the tables and in the regions
+pub mod changes; // changes.rt: which entries changed
+pub mod layout; // layout.rt: sizes, page counts and regions
+pub mod mirroring; // mirroring.rt: the nametables
+pub mod page; // page.rt: a page entry
+pub mod windows; // windows.rt: banks in windows
 
 // The memory without its bytes, which lie in an arena that the caller lends.
 pub struct Memory {

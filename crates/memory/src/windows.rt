@@ -7,7 +7,6 @@ ghost use mathlib.Core.Path.{_≡_};
 ghost use Prim.Native.Nat.{_+_, _*_, _/_, _^_, _≤_, _<_};
 ghost use Rattle.memory.specs.Windows.{banksOf, modulo, windowBase, regionPage, withFlag, Shown, WindowSize, showPages, mapPages, unmapPages, setWritable, mapPrg, mapChr, unmapPrg, setPrgWritable};
 ghost use Rattle.memory.specs.Memory.{Sized};
-ghost use lib.IntN.{pos};
 ghost use lib.ListN.{length};
 
 // How many windows a region has, at least one.
@@ -29,13 +28,6 @@ fn bank_index(bank: i32, banks: usize) -> usize
         return banks - 1 - below % banks;
     }
     (bank as usize) % banks
-}
-
-// A bank register's value as a bank.
-pub fn bank_of(register: u8) -> i32
-    ensures { λ r. ⌜ r ≡ pos register ⌝ }
-{
-    register as i32
 }
 
 // Where a bank begins in its region.

@@ -22,9 +22,11 @@ use Rattle.refusals.specs.Refusals.{firstOf, ifAccepted, stateChecks, arenaChec
 
 -- ---- CPU read and peek: "a CPU read is `prg_read`, else `Memory::prg_peek`"
 
+-- the byte that the board serves, or else the page's
 abbrev pub cpuByte : State → List ℕ → ℕ → ℕ
 cpuByte s arena addr = byteOr (prgPeek arena (s .memory) addr) (served (s .chip) addr)
 
+-- "`read_register` hands back the byte and moves the address on if auto-increment is set"
 unfoldable pub cpuRead : State → List ℕ → ℕ → ByteRead
 cpuRead s arena addr =
     let q = firstOf (cpuChecks s (length arena) addr) in
@@ -32,6 +34,7 @@ cpuRead s arena addr =
     (record { refusal = 0; byte = cpuByte s arena addr; state = withChip s (afterRead (s .chip) addr) })
     (record { refusal = q; byte = 0; state = s })
 
+-- "peek moves nothing"
 unfoldable pub cpuPeek : State → List ℕ → ℕ → Peeked
 cpuPeek s arena addr =
     let q = firstOf (cpuChecks s (length arena) addr) in
@@ -53,12 +56,14 @@ unfoldable pub changes : Memory → Memory → Changed
 changes old new =
     record { prg = prgChanges (old .«prg_pages») (new .«prg_pages»); chr = chrChanges (old .«chr_pages») (new .«chr_pages») }
 
+-- a refused write's answer
 abbrev pub noChanges : Changed
 noChanges = record { prg = record { mask = 0; count = 0; lowest = 0 }; chr = record { mask = 0; count = 0; lowest = 0 } }
 
 abbrev pub refusedWrite : State → ℕ → Written
 refusedWrite s q = record { refusal = q; state = s; changed = noChanges }
 
+-- the state after it, and what changed
 unfoldable pub cpuWrite : State → List ℕ → ℕ → ℕ → Written
 cpuWrite s arena addr v =
     let q = firstOf (cpuChecks s (length arena) addr) in
@@ -71,23 +76,25 @@ cpuWrite s arena addr v =
 unfoldable pub cpuWriteArena : State → List ℕ → ℕ → ℕ → List ℕ
 cpuWriteArena s arena addr v = ifAccepted (firstOf (cpuChecks s (length arena) addr)) (prgWrite arena (s .memory) addr v) arena
 
--- ---- CHR read and write
+-- ---- CHR read and write: "CHR addresses fold modulo 4000"
 
 unfoldable pub chrRead : State → List ℕ → ℕ → Peeked
 chrRead s arena addr =
     let q = firstOf (arenaChecks s (length arena)) in
     ifAccepted q (record { refusal = 0; byte = chrPeek arena (s .memory) addr }) (record { refusal = q; byte = 0 })
 
--- the refusal number is the whole answer
+-- the arena after a CHR write; its refusal number is the whole answer
 unfoldable pub chrWriteArena : State → List ℕ → ℕ → ℕ → List ℕ
 chrWriteArena s arena addr v = ifAccepted (firstOf (arenaChecks s (length arena))) (chrWrite arena (s .memory) addr v) arena
 
 -- ---- regions
 
+-- "Fill copies bytes to a region's start"
 unfoldable pub fillArena : State → List ℕ → Src → List ℕ → List ℕ
 fillArena s arena src bytes =
     ifAccepted (firstOf (fillChecks s (length arena) src (length bytes))) (fillRegion arena (s .memory) src bytes) arena
 
+-- "`region_peek` and `region_write` wrap, also in ROM; an empty region reads 0 and stores nothing"
 unfoldable pub regionRead : State → List ℕ → Src → ℕ → Peeked
 regionRead s arena src offset =
     let q = firstOf (arenaChecks s (length arena)) in
@@ -97,6 +104,7 @@ unfoldable pub regionWriteArena : State → List ℕ → Src → ℕ → ℕ →
 regionWriteArena s arena src offset v =
     ifAccepted (firstOf (arenaChecks s (length arena))) (regionWrite arena (s .memory) src offset v) arena
 
+-- "`sram` answers the start and length of PRG-RAM with the used battery bytes behind it"
 unfoldable pub sramAnswer : State → BatterySpan
 sramAnswer s =
     let q = firstOf (stateChecks s) in

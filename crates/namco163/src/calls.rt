@@ -43,13 +43,14 @@ pub struct Changed {
     pub chr: ChrChanges,
 }
 
+// A write's answer.
 pub struct Written {
     pub refusal: u8,
     pub state: State,
     pub changed: Changed,
 }
 
-// Where the battery's bytes lie in the arena.
+// Where PRG-RAM lies in the arena, with the used battery bytes behind it.
 pub struct BatterySpan {
     pub refusal: u8,
     pub start: usize,

@@ -45,97 +45,25 @@ pub fn load(mut p: Player, arena: &mut [u8], out: &mut [u8], cartridge: Cartridg
     p
 }
 
-fn read(mut p: Player, arena: &[u8], out: &mut [u8], addr: u16) -> Player {
-    let s = p.state;
-    let at = p.out_len;
+// What a call that may change the state leaves: the state, and where the next byte of the answers goes.
+struct Answered {
+    state: State,
+    at: usize,
+}
+
+fn read(s: State, arena: &[u8], out: &mut [u8], at: usize, addr: u16) -> Answered {
     let r = board::cpu_read(s, arena, addr);
-    let after = r.state;
-    p.state = after;
-    p.out_len = answers::byte(out, at, r.refusal, r.byte);
-    p
+    let state = r.state;
+    let next = answers::byte(out, at, r.refusal, r.byte);
+    Answered { state, at: next }
 }
 
-fn peek(mut p: Player, arena: &[u8], out: &mut [u8], addr: u16) -> Player {
-    let s = p.state;
-    let at = p.out_len;
-    let r = board::cpu_peek(s, arena, addr);
-    p.out_len = answers::byte(out, at, r.refusal, r.byte);
-    p
-}
-
-fn write(mut p: Player, arena: &mut [u8], out: &mut [u8], addr: u16, val: u8) -> Player {
-    let s = p.state;
-    let at = p.out_len;
+fn write(s: State, arena: &mut [u8], out: &mut [u8], at: usize, addr: u16, val: u8) -> Answered {
     let r = board::cpu_write(s, arena, addr, val);
-    let after = r.state;
+    let state = r.state;
     let changed = r.changed;
-    p.state = after;
-    p.out_len = answers::written(out, at, r.refusal, changed);
-    p
-}
-
-fn chr_read(mut p: Player, arena: &[u8], out: &mut [u8], addr: u16) -> Player {
-    let s = p.state;
-    let at = p.out_len;
-    let r = board::chr_read(s, arena, addr);
-    p.out_len = answers::byte(out, at, r.refusal, r.byte);
-    p
-}
-
-fn chr_write(mut p: Player, arena: &mut [u8], out: &mut [u8], addr: u16, val: u8) -> Player {
-    let s = p.state;
-    let at = p.out_len;
-    let refusal = board::chr_write(s, arena, addr, val);
-    p.out_len = answers::ok(out, at, refusal);
-    p
-}
-
-// The first n of the bytes.
-fn fill(
-    mut p: Player,
-    arena: &mut [u8],
-    out: &mut [u8],
-    src: Src,
-    bytes: &[u8],
-    n: usize,
-) -> Player {
-    let s = p.state;
-    let at = p.out_len;
-    let named = within(n, bytes);
-    let refusal = board::fill(s, arena, src, &bytes[..named]);
-    p.out_len = answers::ok(out, at, refusal);
-    p
-}
-
-fn region_peek(mut p: Player, arena: &[u8], out: &mut [u8], src: Src, offset: u64) -> Player {
-    let s = p.state;
-    let at = p.out_len;
-    let r = board::region_peek(s, arena, src, offset);
-    p.out_len = answers::byte(out, at, r.refusal, r.byte);
-    p
-}
-
-fn region_write(
-    mut p: Player,
-    arena: &mut [u8],
-    out: &mut [u8],
-    src: Src,
-    offset: u64,
-    val: u8,
-) -> Player {
-    let s = p.state;
-    let at = p.out_len;
-    let refusal = board::region_write(s, arena, src, offset, val);
-    p.out_len = answers::ok(out, at, refusal);
-    p
-}
-
-fn sram(mut p: Player, out: &mut [u8]) -> Player {
-    let s = p.state;
-    let at = p.out_len;
-    let r = board::sram(s);
-    p.out_len = answers::pair(out, at, r.refusal, r.start as u64, r.len as u64);
-    p
+    let next = answers::written(out, at, r.refusal, changed);
+    Answered { state, at: next }
 }
 
 // Lends the first `room` of the samples.
@@ -146,82 +74,151 @@ fn run_within(s: State, n: u64, room: usize, samples: &mut [f32]) -> Ran {
     clocks::run::run(s, n, &mut samples[..room])
 }
 
-fn run(mut p: Player, out: &mut [u8], n: u64, room: usize) -> Player {
-    let s = p.state;
-    let at = p.out_len;
+fn run(s: State, out: &mut [u8], at: usize, n: u64, room: usize) -> Answered {
     let mut samples = [0.0f32; 8192];
     let r = run_within(s, n, room, &mut samples);
-    let after = r.state;
-    p.state = after;
+    let state = r.state;
     if r.refusal != 0 {
-        p.out_len = answers::refused(out, at, r.refusal);
-        return p;
+        let next = answers::refused(out, at, r.refusal);
+        return Answered { state, at: next };
     }
-    p.out_len = answers::ran(out, at, r.rise, r.made, &samples);
-    p
+    let next = answers::ran(out, at, r.rise, r.made, &samples);
+    Answered { state, at: next }
 }
 
-fn reset(mut p: Player, out: &mut [u8], kind: u64) -> Player {
-    let s = p.state;
-    let at = p.out_len;
+fn reset(s: State, out: &mut [u8], at: usize, kind: u64) -> Answered {
     let r = battery::reset(s, kind);
-    let after = r.state;
-    p.state = after;
-    p.out_len = answers::ok(out, at, r.refusal);
-    p
+    let state = r.state;
+    let next = answers::ok(out, at, r.refusal);
+    Answered { state, at: next }
 }
 
-fn sync_battery(mut p: Player, arena: &mut [u8], out: &mut [u8]) -> Player {
-    let s = p.state;
-    let at = p.out_len;
-    let refusal = battery::sync_battery(s, arena);
-    p.out_len = answers::ok(out, at, refusal);
-    p
-}
-
-fn restore_battery(mut p: Player, arena: &[u8], out: &mut [u8]) -> Player {
-    let s = p.state;
-    let at = p.out_len;
+fn restore_battery(s: State, arena: &[u8], out: &mut [u8], at: usize) -> Answered {
     let r = battery::restore_battery(s, arena);
-    let after = r.state;
-    p.state = after;
-    p.out_len = answers::ok(out, at, r.refusal);
-    p
+    let state = r.state;
+    let next = answers::ok(out, at, r.refusal);
+    Answered { state, at: next }
 }
 
-fn image(mut p: Player, out: &mut [u8]) -> Player {
-    let s = p.state;
-    let at = p.out_len;
+// The calls that may change the state.
+fn changing(s: State, call: Call, arena: &mut [u8], out: &mut [u8], at: usize) -> Answered {
+    match call {
+        Call::Read(addr) => read(s, arena, out, at, addr),
+        Call::Write(addr, val) => write(s, arena, out, at, addr, val),
+        Call::Run(n, room) => run(s, out, at, n, room),
+        Call::Reset(kind) => reset(s, out, at, kind),
+        Call::RestoreBattery => restore_battery(s, arena, out, at),
+        _ => Answered { state: s, at },
+    }
+}
+
+fn peek(s: State, arena: &[u8], out: &mut [u8], at: usize, addr: u16) -> usize {
+    let r = board::cpu_peek(s, arena, addr);
+    answers::byte(out, at, r.refusal, r.byte)
+}
+
+fn chr_read(s: State, arena: &[u8], out: &mut [u8], at: usize, addr: u16) -> usize {
+    let r = board::chr_read(s, arena, addr);
+    answers::byte(out, at, r.refusal, r.byte)
+}
+
+fn chr_write(s: State, arena: &mut [u8], out: &mut [u8], at: usize, addr: u16, val: u8) -> usize {
+    let refusal = board::chr_write(s, arena, addr, val);
+    answers::ok(out, at, refusal)
+}
+
+// The first n of the bytes.
+fn fill(
+    s: State,
+    arena: &mut [u8],
+    out: &mut [u8],
+    at: usize,
+    src: Src,
+    bytes: &[u8],
+    n: usize,
+) -> usize {
+    let named = within(n, bytes);
+    let refusal = board::fill(s, arena, src, &bytes[..named]);
+    answers::ok(out, at, refusal)
+}
+
+fn region_peek(s: State, arena: &[u8], out: &mut [u8], at: usize, src: Src, offset: u64) -> usize {
+    let r = board::region_peek(s, arena, src, offset);
+    answers::byte(out, at, r.refusal, r.byte)
+}
+
+fn region_write(
+    s: State,
+    arena: &mut [u8],
+    out: &mut [u8],
+    at: usize,
+    src: Src,
+    offset: u64,
+    val: u8,
+) -> usize {
+    let refusal = board::region_write(s, arena, src, offset, val);
+    answers::ok(out, at, refusal)
+}
+
+fn sram(s: State, out: &mut [u8], at: usize) -> usize {
+    let r = board::sram(s);
+    answers::pair(out, at, r.refusal, r.start as u64, r.len as u64)
+}
+
+fn sync_battery(s: State, arena: &mut [u8], out: &mut [u8], at: usize) -> usize {
+    let refusal = battery::sync_battery(s, arena);
+    answers::ok(out, at, refusal)
+}
+
+fn image(s: State, out: &mut [u8], at: usize) -> usize {
     let mut img = [0u8; 307];
     let refusal = write_image(s, &mut img);
-    p.out_len = answers::image(out, at, refusal, &img);
-    p
+    answers::image(out, at, refusal, &img)
 }
 
-fn arena_sum(mut p: Player, arena: &[u8], out: &mut [u8]) -> Player {
-    let at = p.out_len;
-    p.out_len = answers::arena(out, at, arena);
-    p
+// The calls that leave the state as it is: answers where the next byte of the answers goes.
+fn keeping(
+    s: State,
+    call: Call,
+    arena: &mut [u8],
+    bytes: &[u8],
+    out: &mut [u8],
+    at: usize,
+) -> usize {
+    match call {
+        Call::Peek(addr) => peek(s, arena, out, at, addr),
+        Call::ChrRead(addr) => chr_read(s, arena, out, at, addr),
+        Call::ChrWrite(addr, val) => chr_write(s, arena, out, at, addr, val),
+        Call::Fill(src, n) => fill(s, arena, out, at, src, bytes, n),
+        Call::RegionPeek(src, offset) => region_peek(s, arena, out, at, src, offset),
+        Call::RegionWrite(src, offset, val) => region_write(s, arena, out, at, src, offset, val),
+        Call::Sram => sram(s, out, at),
+        Call::SyncBattery => sync_battery(s, arena, out, at),
+        Call::Image => image(s, out, at),
+        Call::Arena => answers::arena(out, at, arena),
+        _ => at,
+    }
 }
 
 // A call on the loaded cartridge, whose arena is lent.
-pub fn answer(p: Player, call: Call, arena: &mut [u8], bytes: &[u8], out: &mut [u8]) -> Player {
+pub fn answer(mut p: Player, call: Call, arena: &mut [u8], bytes: &[u8], out: &mut [u8]) -> Player {
+    let s = p.state;
+    let at = p.out_len;
     match call {
-        Call::Read(addr) => read(p, arena, out, addr),
-        Call::Peek(addr) => peek(p, arena, out, addr),
-        Call::Write(addr, val) => write(p, arena, out, addr, val),
-        Call::ChrRead(addr) => chr_read(p, arena, out, addr),
-        Call::ChrWrite(addr, val) => chr_write(p, arena, out, addr, val),
-        Call::Fill(src, n) => fill(p, arena, out, src, bytes, n),
-        Call::RegionPeek(src, offset) => region_peek(p, arena, out, src, offset),
-        Call::RegionWrite(src, offset, val) => region_write(p, arena, out, src, offset, val),
-        Call::Sram => sram(p, out),
-        Call::Run(n, room) => run(p, out, n, room),
-        Call::Reset(kind) => reset(p, out, kind),
-        Call::SyncBattery => sync_battery(p, arena, out),
-        Call::RestoreBattery => restore_battery(p, arena, out),
-        Call::Image => image(p, out),
-        Call::Arena => arena_sum(p, arena, out),
-        Call::Load(_) | Call::Malformed => p,
+        Call::Read(_)
+        | Call::Write(_, _)
+        | Call::Run(_, _)
+        | Call::Reset(_)
+        | Call::RestoreBattery => {
+            let r = changing(s, call, arena, out, at);
+            let after = r.state;
+            p.state = after;
+            p.out_len = r.at;
+            p
+        }
+        _ => {
+            p.out_len = keeping(s, call, arena, bytes, out, at);
+            p
+        }
     }
 }

@@ -22,8 +22,8 @@ same-byte a x l h r =
 
 -- the address after an access, by the flag
 moved : (a : Audio) → a .addr < 128 → (b : Bool)
-    → cond b (withAddr a ((a .addr + 1) % 128) (a .«auto_increment»)) a ≡ withAddr a
-    (cond b ((placeOf (portOf a) + 1) % 128) (a .addr)) (a .«auto_increment»)
+    → cond b (withAddr a ((a .addr + 1) % 128) (a .«auto_increment»)) a
+    ≡ withAddr a (cond b ((placeOf (portOf a) + 1) % 128) (a .addr)) (a .«auto_increment»)
 moved a r true = ap (λ (n : ℕ). withAddr a ((n + 1) % 128) (a .«auto_increment»)) (sym (mod-eq-of-lt r))
 moved a r false = refl
 

@@ -7,6 +7,7 @@ use Rattle.sound.specs.Registers.{readOf}
 use Rattle.port.specs.declared.lent.Port.{Port}
 use Rattle.port.specs.Lent.{byteOf, afterRead}
 
+-- a port by its three fields
 abbrev pub portAt : List ℕ → ℕ → Bool → Port
 portAt ram addr auto = record { ram = ram; addr = addr; «auto_increment» = auto }
 

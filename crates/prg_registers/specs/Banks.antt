@@ -34,15 +34,16 @@ writeBank n i v = withPrgBanks n (set (n .«prg_banks») i (v % 64))
 unfoldable pub highBitsE000 : Namco163 → ℕ → ℕ → Namco163
 highBitsE000 n a v = cond (is340 (n .board)) (withMirroring n (mirroringOf v)) (cond (is163 (n .board)) (withAudio n (written (n .audio) a v)) n)
 
+-- E000..E7FF: the bank at 8000, between detection and the high bits
 unfoldable pub writeE000 : Namco163 → ℕ → ℕ → Namco163
 writeE000 n a v = highBitsE000 (writeBank (detectE000 n v) 0 v) a v
 
--- E800..EFFF: the select bits are a 163's
+-- E800..EFFF: the bank at A000; the select bits are a 163's
 unfoldable pub writeE800 : Namco163 → ℕ → Namco163
 writeE800 n v =
     let m = writeBank n 1 v in cond (is163 (m .board)) (withRegs m (withSelects (m .regs) (bit6 v) (bit7 v))) m
 
--- F000..F7FF
+-- F000..F7FF: the bank at C000
 unfoldable pub writeF000 : Namco163 → ℕ → Namco163
 writeF000 n v = writeBank n 2 v
 

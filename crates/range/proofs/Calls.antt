@@ -24,7 +24,8 @@ use Rattle.memory.specs.Page.{unmapped}
 use Rattle.memory.specs.New.{unmappedMemory, newMemory}
 use Rattle.memory.proofs.Laws.Bytes.{store-length, overlay-length, region-backed}
 use Rattle.memory.proofs.Laws.Memory.{ranged-new, lengths-new}
-use Rattle.sound.proofs.Range.{below-set, ram-range, ram-typed}
+use Rattle.sound.proofs.Range.Channel.{below-set}
+use Rattle.sound.proofs.Range.Registers.{ram-range, ram-typed}
 use Rattle.chip.specs.declared.namco163.Namco163.{Namco163}
 use Rattle.chip.specs.Load.{chipAtLoad}
 use Rattle.chip.specs.Reads.{afterRead}
@@ -42,7 +43,7 @@ use Rattle.namco163.specs.declared.calls.Written.{Written}
 use Rattle.refusals.specs.Refusals.{firstOf, resetChecks, arenaChecks, cpuChecks, fillChecks, batteryChecks, loadChecks}
 use Rattle.namco163.specs.Calls.{cpuRead, writeRegister, changes, refusedWrite, cpuWrite, cpuWriteArena, chrWriteArena, fillArena, regionWriteArena}
 use Rattle.battery.specs.Battery.{kindOf, resetState, syncArena, batteryBytes, restoreState}
-use Rattle.cartridge.specs.Load.{LoadFits, memoryAtLoad, freshState, loadArena}
+use Rattle.cartridge.specs.Cartridge.{LoadFits, memoryAtLoad, freshState, loadArena}
 use Rattle.cartridge.proofs.Laws.{sized-load, load-good}
 use Rattle.refusals.proofs.Laws.{accepted-none, cpu-good, fill-good, reset-good, battery-good, backed}
 use Rattle.range.proofs.Refused.{Accepted}

@@ -14,7 +14,7 @@ use Rattle.memory.specs.Memory.{regionIn}
 use Rattle.state.specs.declared.State.{State}
 use Rattle.state.specs.State.{inRange}
 use Rattle.refusals.specs.Refusals.{Check, firstOf, stateChecks, resetChecks, arenaChecks, cpuChecks, fillChecks, batteryChecks, loadChecks}
-use Rattle.cartridge.specs.Load.{LoadFits}
+use Rattle.cartridge.specs.Cartridge.{LoadFits}
 use Rattle.refusals.proofs.Laws.{Numbered, NoneHolds, accepted-none, none-accepted, refused-first}
 
 pub record Decided (cs : List Check) : Type 0 where

@@ -20,7 +20,7 @@ use Rattle.cartridge.specs.declared.Loaded.{Loaded}
 use Rattle.refusals.specs.Refusals.{Check, firstOf, ifAccepted, stateChecks, resetChecks, arenaChecks, cpuChecks, fillChecks, batteryChecks, loadChecks}
 use Rattle.namco163.specs.Calls.{cpuRead, cpuPeek, refusedWrite, cpuWrite, cpuWriteArena, chrRead, chrWriteArena, fillArena, regionRead, regionWriteArena, sramAnswer}
 use Rattle.battery.specs.Battery.{resetState, syncArena, restoreState}
-use Rattle.cartridge.specs.Load.{noState, loadAnswer, loadArena}
+use Rattle.cartridge.specs.Cartridge.{noState, loadAnswer, loadArena}
 
 abbrev pub Accepted : List Check → Type 0
 Accepted cs = firstOf cs ≡ 0

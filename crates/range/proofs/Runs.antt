@@ -14,7 +14,7 @@ use Rattle.cut.specs.Machine.{Clocked, tick, ticks}
 use Rattle.cut.specs.Contract.{runBy}
 use Rattle.sound.specs.Clock.{soundClock}
 use Rattle.sound.specs.Range.{Typed as AudioTyped}
-use Rattle.sound.proofs.Range.{clock-range, clock-typed}
+use Rattle.sound.proofs.Range.Clock.{clock-range, clock-typed}
 use Rattle.chip.specs.declared.namco163.Namco163.{Namco163}
 use Rattle.chip.specs.Namco163.{is163, withRegs, withAudio}
 use Rattle.chip.specs.Clock.{clockCounter}

@@ -1,13 +1,14 @@
 -- "conditions work both ways": a call is accepted exactly where none of its conditions holds, and refused by a number exactly where its condition is the
 -- first that holds.
 use Prim.Native.Nat.{ℕ, _+_, _≤_, _<_}
-use mathlib.Core.Path.{_≡_, refl}
+use mathlib.Core.Path.{_≡_, refl, sym, _∙_}
 use mathlib.Core.Bool.{Bool, true, false, cond}
 use mathlib.Core.List.{List, [], _∷_, _++_}
 use native.Mathlib.Omega.{arith}
-use borrow.Author.Tests.{eqb-true, eqb-false, leb-true, ltb-false}
+use borrow.Author.Needs.{needs}
+use borrow.Author.Tests.{eqb-true, eqb-false, ltb-false}
 use mathlib.Core.Logic.{_⊎_, inl, inr}
-use lib.Dec.{eqb, leb}
+use lib.Dec.{eqb}
 use lib.ListN.{length}
 use Rattle.memory.specs.declared.layout.Src.{Src}
 use Rattle.memory.specs.declared.layout.Src.the-variants.{BatteryExt}
@@ -16,11 +17,9 @@ use Rattle.memory.proofs.Laws.Layout.{region-in}
 use Rattle.memory.specs.Memory.{regionIn}
 use Rattle.memory.specs.Bytes.{Backed}
 use Rattle.state.specs.declared.State.{State}
-use Rattle.state.specs.State.{mapperOk, bankTest, inRange, chipOk, MemoryInRange}
-use Rattle.state.specs.Audio.{audioOk}
-use Rattle.state.specs.Every.{every}
-use Rattle.state.proofs.Every.{and-left, and-right, was-true}
-use Rattle.state.proofs.TablesRange.{memory-in}
+use Rattle.state.specs.State.{inRange}
+use Rattle.state.proofs.Every.{was-true}
+use Rattle.state.proofs.StateRange.{memory-good}
 use Rattle.refusals.specs.Refusals.{Check, firstOf, stateChecks, resetChecks, arenaChecks, cpuChecks, fillChecks, batteryChecks}
 
 -- ---- any list of checks
@@ -74,10 +73,29 @@ first-done (b ∷ before) after h = go (b .holds) (first-done before after) h
     go true ih h = refl
     go false ih h = ih h
 
+-- ---- the arena's checks and one more behind them, as the code makes them: q is the number that the arena's checks gave
+
+none-of-arena : (s : State) (len : ℕ) → firstOf (arenaChecks s len) ≡ 0 → NoneHolds (arenaChecks s len)
+none-of-arena s len e = accepted-none (arenaChecks s len) (search needs) e
+
+module _ (s : State) (len q : ℕ) (last : Check) (e : q ≡ firstOf (arenaChecks s len)) where
+  -- q refuses
+  pub arena-refuses : (q ≡ 0 → ⊥) → q ≡ firstOf (arenaChecks s len ++ last ∷ [])
+  arena-refuses h = e ∙ sym (first-done (arenaChecks s len) (last ∷ []) (λ z. h (e ∙ z)))
+
+  -- q does not, and the last check refuses
+  pub last-refuses : q ≡ 0 → last .holds ≡ true → last .number ≡ firstOf (arenaChecks s len ++ last ∷ [])
+  last-refuses z h = sym (refused-first (arenaChecks s len) [] last (none-of-arena s len (sym e ∙ z)) h)
+
+  -- none does
+  pub last-passes : q ≡ 0 → last .holds ≡ false → 0 ≡ firstOf (arenaChecks s len ++ last ∷ [])
+  unfolding firstOf
+  last-passes z h = rw (first-more (arenaChecks s len) (last ∷ []) (none-of-arena s len (sym e ∙ z)), h)
+
 -- ---- what an accepted call knows
 
 pub state-good : (s : State) → firstOf (stateChecks s) ≡ 0 → inRange s ≡ true
-state-good s e = was-true (inRange s) (accepted-none (stateChecks s) (omega arith, tt) e .0)
+state-good s e = was-true (inRange s) (accepted-none (stateChecks s) (search needs) e .0)
 
 -- a memory in range and an arena of its layout's length
 pub record Arena (s : State) (len : ℕ) : Type 0 where
@@ -92,43 +110,24 @@ arena-none s len h =
     }
 
 pub arena-good : (s : State) (len : ℕ) → firstOf (arenaChecks s len) ≡ 0 → Arena s len
-arena-good s len e = arena-none s len (accepted-none (arenaChecks s len) (omega arith, (omega arith, tt)) e)
-
-pub arena-checks : (s : State) (len : ℕ) → firstOf (arenaChecks s len) ≡ 0 → NoneHolds (arenaChecks s len)
-arena-checks s len e = accepted-none (arenaChecks s len) (omega arith, (omega arith, tt)) e
+arena-good s len e = arena-none s len (none-of-arena s len e)
 
 pub cpu-good : (s : State) (len addr : ℕ) → firstOf (cpuChecks s len addr) ≡ 0 → Arena s len × (0x4800 ≤ addr)
 cpu-good s len addr e =
-    let h = accepted-none (cpuChecks s len addr) (omega arith, (omega arith, (omega arith, tt))) e in
+    let h = accepted-none (cpuChecks s len addr) (search needs) e in
     (arena-none s len (h .0, (h .1 .0, tt)), ltb-false addr 0x4800 (h .1 .1 .0))
 
 pub fill-good : (s : State) (len : ℕ) (src : Src) (n : ℕ) → firstOf (fillChecks s len src n) ≡ 0
     → Arena s len × (n ≤ regionIn (s .memory) src .len)
 fill-good s len src n e =
-    let h = accepted-none (fillChecks s len src n) (omega arith, (omega arith, (omega arith, tt))) e in
+    let h = accepted-none (fillChecks s len src n) (search needs) e in
     (arena-none s len (h .0, (h .1 .0, tt)), ltb-false (regionIn (s .memory) src .len) n (h .1 .1 .0))
-
-pub memory-good : (s : State) → inRange s ≡ true → MemoryInRange (s .memory)
-unfolding inRange
-memory-good s e = memory-in (s .memory) (and-right (chipOk (s .chip)) _ e)
 
 pub backed : (s : State) (arena : List ℕ) → Arena s (length arena) → Backed (s .memory) arena
 backed s arena h = record { ranged = memory-good s (h .good) .ranged; long = h .long }
 
--- the sound port's address lies in the sound RAM
-pub port-good : (s : State) → inRange s ≡ true → s .chip .audio .addr < 128
-unfolding inRange chipOk audioOk
-port-good s e =
-    let n = s .chip in
-    let a = n .audio in
-    let c = and-left (chipOk n) _ e in
-    let sound = and-right (every 3 (bankTest (n .«prg_banks»))) _ (and-right (mapperOk (n .«mapper_num»)) _ c) in
-    let addr = and-left (leb (a .addr) 127) _
-    (and-right (leb (a .«current_channel») 7) _ (and-right (leb (a .«update_counter») 14) _ sound)) in
-    omega (arith, leb-true (a .addr) 127 addr)
-
 pub reset-good : (s : State) (kind : ℕ) → firstOf (resetChecks s kind) ≡ 0 → inRange s ≡ true
-reset-good s kind e = was-true (inRange s) (accepted-none (resetChecks s kind) (omega arith, (omega arith, tt)) e .0)
+reset-good s kind e = was-true (inRange s) (accepted-none (resetChecks s kind) (search needs) e .0)
 
 -- the battery's 128 bytes lie in the arena
 pub record Battery (s : State) (len : ℕ) : Type 0 where
@@ -138,7 +137,7 @@ pub record Battery (s : State) (len : ℕ) : Type 0 where
 pub battery-good : (s : State) (len : ℕ) → firstOf (batteryChecks s len) ≡ 0 → Battery s len
 unfolding regionOf arenaLen
 battery-good s len e =
-    let h = accepted-none (batteryChecks s len) (omega arith, (omega arith, (omega arith, tt))) e in
+    let h = accepted-none (batteryChecks s len) (search needs) e in
     let a = arena-none s len (h .0, (h .1 .0, tt)) in
     let m = memory-good s (a .good) in
     let r = region-in (s .memory .layout) (s .memory .«battery_ext_len») BatteryExt (m .ranged .sized .used) in

@@ -105,20 +105,14 @@ pub fn battery_refusal(s: State, len: usize) -> u8
 fn mapper_ok(mapper: u64) -> bool
     ensures { λ r. ⌜ r ≡ mapperOk mapper ⌝ }
 {
-    if mapper == 19 {
-        return true;
-    }
-    mapper == 210
+    (mapper == 19) | (mapper == 210)
 }
 
 // A 163 needs a reserve for its sound RAM; one byte is enough, since a reserve is whole pages.
 fn lacks_reserve(mapper: u64, reserve: u64) -> bool
     ensures { λ r. ⌜ r ≡ (eqb mapper 19 && eqb reserve 0) ⌝ }
 {
-    if mapper == 19 {
-        return reserve == 0;
-    }
-    false
+    (mapper == 19) & (reserve == 0)
 }
 
 pub fn load_refusal(mapper: u64, sizes: MemoryLayout, len: usize) -> u8

@@ -22,7 +22,7 @@ use Rattle.sound.specs.Clock.{nextChannel, updateChannel}
 use Rattle.sound.specs.Run.{samplesOf}
 use Rattle.sound.specs.Range.{Typed, InRange}
 use Rattle.sound.specs.Wiki.{wikiAddress, wikiAuto, wikiAdvance, wikiBase, wikiFrequency, wikiPhase, wikiStored, wikiLength, wikiWaveAddress, wikiVolume, wikiSample, wikiNextPhase, wikiPlace, wikiLevel, wikiOutput, wikiCount, wikiEnabled, wikiSum, wikiTurn, wikiUpdates, NoPhase, Holds}
-use Rattle.sound.proofs.Range.{next-phase-small}
+use Rattle.sound.proofs.Range.Channel.{next-phase-small}
 use Rattle.sound.proofs.mix.Laws.{mix-rounds}
 use Rattle.sound.proofs.registers.Laws.{inside, past}
 use Rattle.sound.proofs.run.Laws.{made-closed}
@@ -85,8 +85,7 @@ level-agrees n v h =
 
 -- the level at a phase, against the wiki's output there
 pub output-agrees : (ram : List ℕ) (b p : ℕ) → getD ram (wikiPlace ram b p / 2) 0 < 256
-    → pos (levelAt ram b p) ≡ wikiOutput ram b p +ℤ pos
-    (cond (leb 8 (wikiSample ram (wikiPlace ram b p))) 0 (256 * wikiVolume ram b))
+    → pos (levelAt ram b p) ≡ wikiOutput ram b p +ℤ pos (cond (leb 8 (wikiSample ram (wikiPlace ram b p))) 0 (256 * wikiVolume ram b))
 unfolding levelAt
 output-agrees ram b p h =
     rw (sample-agrees ram (wikiPlace ram b p))
@@ -97,6 +96,10 @@ output-agrees ram b p h =
     nibble false = omega arith
 
 -- ---- phases kept apart: a wiki's RAM that holds the port's sound RAM and phases goes on holding them, update by update
+
+-- a channel's registers at even places hold no phase
+even-place : (k o : ℕ) → o % 2 ≡ 0 → NoPhase (wikiBase k + o)
+even-place k o h m = ((λ e. omega arith), ((λ e. omega arith), (λ e. omega arith)))
 
 -- a step of the wiki's phase is the port's
 pub phase-agrees : (wiki : List ℕ) (a : Audio) (k : ℕ) → k < 8 → Holds wiki (a .ram) (a .«phase_ext»)
@@ -109,9 +112,9 @@ phase-agrees wiki a k h g =
       frequency-agrees (a .ram) b,
       length-agrees (a .ram) b,
       ← g .phase k h,
-      ← g .others (b + 0) (λ m. ((λ e. omega arith), ((λ e. omega arith), (λ e. omega arith)))),
-      ← g .others (b + 2) (λ m. ((λ e. omega arith), ((λ e. omega arith), (λ e. omega arith)))),
-      ← g .others (b + 4) (λ m. ((λ e. omega arith), ((λ e. omega arith), (λ e. omega arith)))),
+      ← g .others (b + 0) (even-place k 0 refl),
+      ← g .others (b + 2) (even-place k 2 refl),
+      ← g .others (b + 4) (even-place k 4 refl),
     )
 
 other-stays : (wiki : List ℕ) (b p j : ℕ) → (j ≡ b + 1 → ⊥) → (j ≡ b + 3 → ⊥) → (j ≡ b + 5 → ⊥) → getD (wikiStored wiki b p) j 0
@@ -122,8 +125,8 @@ other-stays wiki b p j x y z =
     ∙ getD-set-other wiki (b + 1) j _ 0 x
 
 -- a phase that is stored is read back
-pub stored-phase : (wiki : List ℕ) (k p : ℕ) → length wiki ≡ 128 → k < 8 → p < 16777216 → wikiPhase (wikiStored wiki (wikiBase k) p)
-    (wikiBase k) ≡ p
+pub stored-phase : (wiki : List ℕ) (k p : ℕ) → length wiki ≡ 128 → k < 8 → p < 16777216
+    → wikiPhase (wikiStored wiki (wikiBase k) p) (wikiBase k) ≡ p
 stored-phase wiki k p l h q =
     let b = wikiBase k in
     let w1 = set wiki (b + 1) (p % 256) in
@@ -203,8 +206,8 @@ sum-enabled c k zero xs h = all-enabled c k xs (omega arith)
 sum-enabled c k (suc m) [] h = refl
 sum-enabled c k (suc m) (x ∷ xs) h = rw (lt-leb 7 (k + c) (omega arith)) (zero-add _ ∙ sum-enabled c (k + 1) m xs (omega arith))
 
-pub mix-agrees : (ks : List ℕ) (c : ℕ) → c < 8 → total (drop (7 - c) ks) ≤ 16777216 → mixOf (map whole ks) c ≡ round binary32 false
-    (wikiSum c 0 ks) (c + 1)
+pub mix-agrees : (ks : List ℕ) (c : ℕ) → c < 8 → total (drop (7 - c) ks) ≤ 16777216
+    → mixOf (map whole ks) c ≡ round binary32 false (wikiSum c 0 ks) (c + 1)
 mix-agrees ks c l h = rw (sum-enabled c 0 (7 - c) ks (omega arith)) (mix-rounds ks c h l)
 
 -- the first update is channel 7's, each is an enabled channel's, and the next one is the port's next channel
@@ -251,14 +254,14 @@ pub read-agrees : (a : Audio) (addr : ℕ) → 0x4800 ≤ addr → addr ≤ 0x4F
 unfolding readOf peeked
 read-agrees a addr l h = rw (inside 0x4800 0x4FFF addr l h)
 
-pub write-agrees : (a : Audio) (addr val : ℕ) → 0x4800 ≤ addr → addr ≤ 0x4FFF → written a addr val ≡ advanced
-    (withRam a (set (a .ram) (a .addr) val))
+pub write-agrees : (a : Audio) (addr val : ℕ) → 0x4800 ≤ addr → addr ≤ 0x4FFF
+    → written a addr val ≡ advanced (withRam a (set (a .ram) (a .addr) val))
 unfolding written
 write-agrees a addr val l h = rw (inside 0x4800 0x4FFF addr l h)
 
 -- F800..FFFF sets the address and the auto-increment
-pub port-agrees : (a : Audio) (addr val : ℕ) → 0xF800 ≤ addr → addr ≤ 0xFFFF → val < 256 → written a addr val ≡ withAddr a
-    (wikiAddress val) (wikiAuto val)
+pub port-agrees : (a : Audio) (addr val : ℕ) → 0xF800 ≤ addr → addr ≤ 0xFFFF → val < 256
+    → written a addr val ≡ withAddr a (wikiAddress val) (wikiAuto val)
 unfolding written
 port-agrees a addr val l h v =
     rw (

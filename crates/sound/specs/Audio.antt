@@ -1,4 +1,4 @@
--- The sound chip's state: the one that `Audio::new` makes, and a state with some fields replaced.
+-- The sound chip's state: the one that `Audio::new` makes, and a state with the named fields replaced.
 use Prim.Native.Nat.{ℕ}
 use mathlib.Core.Bool.{Bool, false}
 use mathlib.Core.List.{List}
@@ -21,6 +21,7 @@ fresh =
       «phase_ext» = replicate 8 0;
     }
 
+-- the sound RAM
 abbrev pub withRam : Audio → List ℕ → Audio
 withRam a ram =
     record {
@@ -50,6 +51,7 @@ withAddr a addr auto =
       «phase_ext» = a .«phase_ext»;
     }
 
+-- whether the sound is disabled
 abbrev pub withDisabled : Audio → Bool → Audio
 withDisabled a d =
     record {
@@ -64,6 +66,7 @@ withDisabled a d =
       «phase_ext» = a .«phase_ext»;
     }
 
+-- the update counter
 abbrev pub withCounter : Audio → ℕ → Audio
 withCounter a u =
     record {
@@ -78,6 +81,7 @@ withCounter a u =
       «phase_ext» = a .«phase_ext»;
     }
 
+-- the current channel
 abbrev pub withChannel : Audio → ℕ → Audio
 withChannel a k =
     record {

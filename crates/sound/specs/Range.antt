@@ -16,6 +16,7 @@ pub record Level (x : Float) : Type 0 where
   pub small : size ≤ 3825
   pub is : x ≡ whole size
 
+-- the eight channel outputs
 abbrev pub Levels : List Float → Type 0
 Levels outs = (i : ℕ) → i < 8 → Level (getD outs i nan)
 
@@ -37,6 +38,7 @@ pub record OutValue (x : Float) : Type 0 where
   pub is : x ≡ fin false mantissa exponent
   pub most : T (le x (whole 3825))
 
+-- a sound state in range
 pub record InRange (a : Audio) : Type 0 where
   pub counter : a .«update_counter» ≤ 14
   pub channel : a .«current_channel» ≤ 7

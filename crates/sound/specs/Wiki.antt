@@ -13,6 +13,7 @@ use lib.IntN.{ℤ, pos, _-ℤ_, _*ℤ_}
 abbrev pub wikiAddress : ℕ → ℕ
 wikiAddress val = val % 128
 
+-- and whether it sets auto-increment
 abbrev pub wikiAuto : ℕ → Bool
 wikiAuto val = leb 128 val
 
@@ -42,9 +43,11 @@ wikiStored ram b p = set (set (set ram (b + 1) (p % 256)) (b + 3) (p / 256 % 256
 abbrev pub wikiLength : List ℕ → ℕ → ℕ
 wikiLength ram b = 256 - (getD ram (b + 4) 0 - getD ram (b + 4) 0 % 4)
 
+-- b+6 the address of the wave
 abbrev pub wikiWaveAddress : List ℕ → ℕ → ℕ
 wikiWaveAddress ram b = getD ram (b + 6) 0
 
+-- b+7 bits 0..3 the volume
 abbrev pub wikiVolume : List ℕ → ℕ → ℕ
 wikiVolume ram b = getD ram (b + 7) 0 % 16
 
@@ -66,6 +69,7 @@ wikiPlace ram b phase = (phase / 65536 + wikiWaveAddress ram b) % 256
 abbrev pub wikiLevel : ℕ → ℕ → ℤ
 wikiLevel sample volume = (pos sample -ℤ pos 8) *ℤ pos volume
 
+-- the level at a phase: of the sample there, at the volume of byte b+7
 abbrev pub wikiOutput : List ℕ → ℕ → ℕ → ℤ
 wikiOutput ram b phase = wikiLevel (wikiSample ram (wikiPlace ram b phase)) (wikiVolume ram b)
 
@@ -75,6 +79,7 @@ wikiOutput ram b phase = wikiLevel (wikiSample ram (wikiPlace ram b phase)) (wik
 abbrev pub wikiCount : List ℕ → ℕ
 wikiCount ram = getD ram 0x7F 0 / 16 % 8
 
+-- whether channel k is one of them
 abbrev pub wikiEnabled : ℕ → ℕ → Bool
 wikiEnabled c k = leb 7 (k + c)
 

@@ -21,7 +21,7 @@ use Rattle.sound.specs.Range.{Level, OutInRange, InRange}
 use Rattle.sound.specs.declared.audio.Audio.{Audio}
 use lib.ListN.{length, getD}
 use Rattle.state.specs.Every.{every}
-use Rattle.state.proofs.Every.{and-left, and-right, both, every-at, every-all, beyond}
+use Rattle.state.proofs.Every.{was-false, at-most, first-of, every-at, every-all, beyond}
 use Rattle.state.specs.Audio.{outOk, wholePart, levelOk, outputTest, phaseTest, audioOk}
 
 -- a float that does not differ from itself is a number
@@ -32,10 +32,7 @@ number (inf s) e = tt
 number (fin s m e) h = tt
 
 pub is-number : (x : Float) → ne x x ≡ false → isNan x ≡ false
-unfolding isNan ne eq
-is-number nan e = let z : _≡_ {A = ℕ} 0 1 = cc in absurd (omega arith)
-is-number (inf s) e = refl
-is-number (fin s m e) h = refl
+is-number x e = was-false (isNan x) (is-true (not (isNan x)) (number x e))
 
 -- a whole number up to 2 ^ 24 as a float
 value-number : (x : Float) (a : ℕ) → HasValue x false a 1 → T (not (isNan x))
@@ -68,12 +65,10 @@ pub level-ok : (x : Float) → Level x → levelOk x ≡ true
 unfolding levelTest levelOk outOk
 level-ok x l =
     let k = l .size in
-    let t = every-at 3826 levelTest all-levels k (omega (arith, l .small)) in
-    let a = and-left (not (isNan (whole k))) _ t in
-    let r = and-right (not (isNan (whole k))) _ t in
-    let b = and-left (leb (toBits binary32 (whole k)) 0x456F1000) _ r in
-    let e = eqb-true (wholePart (toBits binary32 (whole k))) k (and-right (leb (toBits binary32 (whole k)) 0x456F1000) _ r) in
-    rw (l .is, a, b, e) (eq-eqb (toBits binary32 (whole k)) (toBits binary32 (whole k)) refl)
+    let h1 = first-of (not (isNan (whole k))) _ (every-at 3826 levelTest all-levels k (omega (arith, l .small))) in
+    let h2 = first-of (leb (toBits binary32 (whole k)) 0x456F1000) _ (h1 .1) in
+    let e = eqb-true (wholePart (toBits binary32 (whole k))) k (h2 .1) in
+    rw (l .is, h1 .0, h2 .0, e) (eq-eqb (toBits binary32 (whole k)) (toBits binary32 (whole k)) refl)
 
 -- ---- what passes it is a level
 
@@ -96,13 +91,12 @@ part-small b h = by (ltb b 0x3F800000) refl
 pub ok-level : (x : Float) → T (fits binary32 x) → levelOk x ≡ true → Level x
 unfolding levelOk outOk
 ok-level x f e =
-    let o = and-left (outOk x) _ e in
+    let h = first-of (outOk x) _ e in
     let k = wholePart (toBits binary32 x) in
-    let small : toBits binary32 x ≤ 0x456F1000 = leb-true _ _ (and-right (not (isNan x)) _ o) in
-    let same = eqb-true (toBits binary32 (whole k)) (toBits binary32 x) (and-right (outOk x) _ e) in
+    let same = eqb-true (toBits binary32 (whole k)) (toBits binary32 x) (h .1) in
     record {
       size = k;
-      small = part-small (toBits binary32 x) small;
+      small = part-small (toBits binary32 x) (leb-true _ _ (first-of (not (isNan x)) _ (h .0) .1));
       is = sym (ofBits-toBits binary32 x f) ∙ ap (ofBits binary32) (sym same)
           ∙ ofBits-toBits binary32 (whole k) (ofInt-fits binary32 (pos k));
     }
@@ -116,14 +110,11 @@ OutputsFit a = (i : ℕ) → T (fits binary32 (getD (a .«channel_out») i nan))
 out-in : (x : Float) → outOk x ≡ true → OutInRange x
 unfolding outOk
 out-in x e =
-    record {
-      number = subst T (sym (and-left (not (isNan x)) _ e)) tt;
-      bits = leb-true (toBits binary32 x) 0x456F1000 (and-right (not (isNan x)) _ e);
-    }
+    let h = first-of (not (isNan x)) _ e in record { number = subst T (sym (h .0)) tt; bits = leb-true _ _ (h .1) }
 
 in-out : (x : Float) → OutInRange x → outOk x ≡ true
 unfolding outOk
-in-out x h = both (not (isNan x)) _ (is-true (not (isNan x)) (h .number)) (le-leb (toBits binary32 x) 0x456F1000 (h .bits))
+in-out x h = rw (is-true (not (isNan x)) (h .number), le-leb _ _ (h .bits))
 
 phase-in : (phases : List ℕ) → length phases ≡ 8 → every 8 (phaseTest phases) ≡ true → (i : ℕ) → getD phases i 0 < 16777216
 phase-in phases l e i = go (ltb i 8) refl
@@ -135,33 +126,28 @@ phase-in phases l e i = go (ltb i 8) refl
 pub audio-in : (a : Audio) → length (a .«phase_ext») ≡ 8 → OutputsFit a → audioOk a ≡ true → InRange a
 unfolding audioOk
 audio-in a l f e =
-    let counter = leb (a .«update_counter») 14 in
-    let channel = leb (a .«current_channel») 7 in
-    let addr = leb (a .addr) 127 in
-    let phases = every 8 (phaseTest (a .«phase_ext»)) in
-    let outs = every 8 (outputTest (a .«channel_out»)) in
-    let e1 = and-right counter _ e in
-    let e2 = and-right channel _ e1 in
-    let e3 = and-right addr _ e2 in
-    let e4 = and-right phases _ e3 in
+    let h1 = at-most _ _ _ e in
+    let h2 = at-most _ _ _ (h1 .1) in
+    let h3 = at-most _ _ _ (h2 .1) in
+    let h4 = first-of _ _ (h3 .1) in
+    let h5 = first-of _ _ (h4 .1) in
     record {
-      counter = leb-true _ _ (and-left counter _ e);
-      channel = leb-true _ _ (and-left channel _ e1);
-      address = leb-true _ _ (and-left addr _ e2);
-      phases = phase-in (a .«phase_ext») l (and-left phases _ e3);
-      outputs = λ i h. ok-level (getD (a .«channel_out») i nan) (f i)
-          (every-at 8 (outputTest (a .«channel_out»)) (and-left outs _ e4) i h);
-      mixed = out-in (a .out) (and-right outs _ e4);
+      counter = h1 .0;
+      channel = h2 .0;
+      address = h3 .0;
+      phases = phase-in (a .«phase_ext») l (h4 .0);
+      outputs = λ i h. ok-level (getD (a .«channel_out») i nan) (f i) (every-at 8 (outputTest (a .«channel_out»)) (h5 .0) i h);
+      mixed = out-in (a .out) (h5 .1);
     }
 
 pub in-audio : (a : Audio) → InRange a → audioOk a ≡ true
 unfolding audioOk
 in-audio a h =
-    both (leb (a .«update_counter») 14) _ (le-leb _ _ (h .counter))
-    (both (leb (a .«current_channel») 7) _ (le-leb _ _ (h .channel))
-    (both (leb (a .addr) 127) _ (le-leb _ _ (h .address))
-    (both (every 8 (phaseTest (a .«phase_ext»))) _
-    (every-all 8 (phaseTest (a .«phase_ext»)) (λ i k. lt-ltb (getD (a .«phase_ext») i 0) 16777216 (h .phases i)))
-    (both (every 8 (outputTest (a .«channel_out»))) _
-    (every-all 8 (outputTest (a .«channel_out»)) (λ i k. level-ok (getD (a .«channel_out») i nan) (h .outputs i k)))
-    (in-out (a .out) (h .mixed))))))
+    rw (
+      le-leb _ _ (h .counter),
+      le-leb _ _ (h .channel),
+      le-leb _ _ (h .address),
+      every-all 8 (phaseTest (a .«phase_ext»)) (λ i k. lt-ltb (getD (a .«phase_ext») i 0) 16777216 (h .phases i)),
+      every-all 8 (outputTest (a .«channel_out»)) (λ i k. level-ok (getD (a .«channel_out») i nan) (h .outputs i k)),
+      in-out (a .out) (h .mixed),
+    )

@@ -1,8 +1,10 @@
 -- Laws of a test of each index below a number, and of tests joined by `&&`.
 use Prim.Native.Nat.{ℕ, zero, suc, _+_, _≤_, _<_}
-use mathlib.Core.Path.{_≡_, refl, sym, _∙_}
+use mathlib.Core.Path.{_≡_, refl, sym}
 use mathlib.Core.Bool.{Bool, true, false, not, _&&_}
 use mathlib.Core.List.{List, [], _∷_}
+use borrow.Author.Tests.{leb-true}
+use lib.Dec.{leb}
 use lib.ListN.{length, getD}
 use mathlib.Core.Logic.{_⊎_, inl, inr}
 use native.Mathlib.Nat.{eq-or-lt-of-le}
@@ -17,6 +19,13 @@ and-left false b e = e
 pub and-right : (a b : Bool) → a && b ≡ true → b ≡ true
 and-right true b e = e
 and-right false b e = let z : _≡_ {A = ℕ} 0 1 = cc in absurd (omega arith)
+
+-- tests of numbers, the first of several: what it says, and what the others do
+pub at-most : (m n : ℕ) (b : Bool) → leb m n && b ≡ true → (m ≤ n) × (b ≡ true)
+at-most m n b e = (leb-true m n (and-left (leb m n) b e), and-right (leb m n) b e)
+
+pub first-of : (a b : Bool) → a && b ≡ true → (a ≡ true) × (b ≡ true)
+first-of a b e = (and-left a b e, and-right a b e)
 
 pub both : (a b : Bool) → a ≡ true → b ≡ true → a && b ≡ true
 both a b p q = rw (p, q)
@@ -45,22 +54,10 @@ unfolding every
 every-all zero p h = refl
 every-all (suc n) p h = both (every n p) (p n) (every-all n p (λ i l. h i (omega arith))) (h n (omega arith))
 
--- one more passes, and one that fails
 -- one test more, whether or not it passes
 pub every-next : (n : ℕ) (p : ℕ → Bool) (a b : Bool) → a ≡ every n p → b ≡ p n → a && b ≡ every (n + 1) p
 unfolding every
 every-next n p a b e f = rw (add-one n, e, f)
-
-pub every-more : (n : ℕ) (p : ℕ → Bool) → every n p ≡ true → p n ≡ true → every (n + 1) p ≡ true
-unfolding every
-every-more n p e q = rw add-one (both (every n p) (p n) e q)
-
-pub every-fails : (n : ℕ) (p : ℕ → Bool) (i : ℕ) → i < n → p i ≡ false → every n p ≡ false
-every-fails n p i h e = go (every n p) refl
-  where
-    go : (t : Bool) → every n p ≡ t → every n p ≡ false
-    go true q = let z = sym (every-at n p q i h) ∙ e in let y : _≡_ {A = ℕ} 0 1 = cc in absurd (omega arith)
-    go false q = q
 
 -- beyond the end a list reads as its default
 pub beyond : {A : Type 0} (l : List A) (i : ℕ) (d : A) → length l ≤ i → getD l i d ≡ d

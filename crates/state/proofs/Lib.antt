@@ -1,3 +1,4 @@
 pub mod Every
 pub mod AudioRange
 pub mod TablesRange
+pub mod StateRange

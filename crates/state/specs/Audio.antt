@@ -21,10 +21,11 @@ wholePart b = cond (ltb b 0x3F800000) 0 ((2 ^ 23 + b % 2 ^ 23) / 2 ^ (150 - b / 
 unfoldable pub levelOk : Float → Bool
 levelOk x = outOk x && eqb (toBits binary32 (whole (wholePart (toBits binary32 x)))) (toBits binary32 x)
 
--- the eight channels' outputs, and their phases "below 2^24"
+-- the test of channel i's output
 abbrev pub outputTest : List Float → ℕ → Bool
 outputTest outs i = levelOk (getD outs i nan)
 
+-- "phases below 2^24"
 abbrev pub phaseTest : List ℕ → ℕ → Bool
 phaseTest phases i = ltb (getD phases i 0) 16777216
 

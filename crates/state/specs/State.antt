@@ -15,16 +15,19 @@ use Rattle.state.specs.Every.{every}
 use Rattle.state.specs.Audio.{audioOk}
 use Rattle.state.specs.Tables.{memoryOk}
 
--- "PRG banks 0..=63, mapper 19 or 210", and the sound's fields; the types of the other registers say their range
+-- "PRG banks 0..=63"
 abbrev pub bankTest : List ℕ → ℕ → Bool
 bankTest banks i = leb (getD banks i 0) 63
 
+-- "mapper 19 or 210"
 abbrev pub mapperOk : ℕ → Bool
 mapperOk k = eqb k 19 || eqb k 210
 
+-- the registers; the types of the other fields say their range
 unfoldable pub chipOk : Namco163 → Bool
 chipOk n = mapperOk (n .«mapper_num») && (every 3 (bankTest (n .«prg_banks»)) && audioOk (n .audio))
 
+-- "2. A state or image field is out of range.": what that condition denies
 unfoldable pub inRange : State → Bool
 inRange s = chipOk (s .chip) && memoryOk (s .memory)
 
@@ -32,7 +35,7 @@ inRange s = chipOk (s .chip) && memoryOk (s .memory)
 abbrev pub withChip : State → Namco163 → State
 withChip s n = record { chip = n; memory = s .memory }
 
--- ---- the same as facts
+-- ---- the same as facts, which callers' proofs use
 
 pub record ChipInRange (n : Namco163) : Type 0 where
   pub mapper : (n .«mapper_num» ≡ 19) ⊎ (n .«mapper_num» ≡ 210)

@@ -27,9 +27,11 @@ usedOk used l = eqb used 0 || (eqb used 128 && leb 1 (l .«battery_ext»))
 unfoldable pub entryOk : ℕ → Page → Bool
 entryOk n p = eqb (offsetOf p % 1024) 0 && (ltb (offsetOf p) n && not (bit 30 (p .0)))
 
+-- the test of entry i of a table
 abbrev pub entryTest : ℕ → List Page → ℕ → Bool
 entryTest n t i = entryOk n (getD t i unmapped)
 
+-- the memory's fields
 unfoldable pub memoryOk : Memory → Bool
 memoryOk m =
     layoutOk (m .layout)

@@ -47,51 +47,36 @@ fn level_ok(x: f32) -> bool
 fn levels_ok(outs: [f32; Audio::CHANNEL_COUNT]) -> bool
     ensures { λ r. ⌜ r ≡ every 8 (outputTest outs) ⌝ }
 {
+    let mut ok = true;
     let mut i: usize = 0;
     while i < 8 {
         let x = outs[i];
-        if !level_ok(x) {
-            return false;
-        }
+        ok = ok & level_ok(x);
         i += 1;
     }
-    true
+    ok
 }
 
 fn phases_ok(phases: [u32; Audio::CHANNEL_COUNT]) -> bool
     ensures { λ r. ⌜ r ≡ every 8 (phaseTest phases) ⌝ }
 {
+    let mut ok = true;
     let mut i: usize = 0;
     while i < 8 {
         let x = phases[i];
-        if 0x0100_0000 <= x {
-            return false;
-        }
+        ok = ok & (x < 0x0100_0000);
         i += 1;
     }
-    true
+    ok
 }
 
 pub fn audio_ok(a: Audio) -> bool
     ensures { λ r. ⌜ r ≡ audioOk a ⌝ }
 {
-    if 14 < a.update_counter {
-        return false;
-    }
-    if 7 < a.current_channel {
-        return false;
-    }
-    if 127 < a.addr {
-        return false;
-    }
     let phases = a.phase_ext;
-    if !phases_ok(phases) {
-        return false;
-    }
     let outs = a.channel_out;
-    if !levels_ok(outs) {
-        return false;
-    }
     let out = a.out;
-    out_ok(out)
+    (a.update_counter <= 14)
+        & ((a.current_channel <= 7)
+            & ((a.addr <= 127) & (phases_ok(phases) & (levels_ok(outs) & out_ok(out)))))
 }

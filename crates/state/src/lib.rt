@@ -17,38 +17,21 @@ pub struct State {
 fn banks_ok(banks: [u8; 3]) -> bool
     ensures { λ r. ⌜ r ≡ every 3 (bankTest banks) ⌝ }
 {
-    let mut i: usize = 0;
-    while i < 3 {
-        let bank = banks[i];
-        if 63 < bank {
-            return false;
-        }
-        i += 1;
-    }
-    true
+    ((banks[0] <= 63) & (banks[1] <= 63)) & (banks[2] <= 63)
 }
 
 fn mapper_ok(mapper: u16) -> bool
     ensures { λ r. ⌜ r ≡ mapperOk mapper ⌝ }
 {
-    if mapper == 19 {
-        return true;
-    }
-    mapper == 210
+    (mapper == 19) | (mapper == 210)
 }
 
 fn chip_ok(chip: Namco163) -> bool
     ensures { λ r. ⌜ r ≡ chipOk chip ⌝ }
 {
-    if !mapper_ok(chip.mapper_num) {
-        return false;
-    }
     let banks = chip.prg_banks;
-    if !banks_ok(banks) {
-        return false;
-    }
     let sound = chip.audio;
-    audio::audio_ok(sound)
+    mapper_ok(chip.mapper_num) & (banks_ok(banks) & audio::audio_ok(sound))
 }
 
 // Whether each field is in range, floats and entries too.
@@ -56,9 +39,6 @@ pub fn in_range(s: State) -> bool
     ensures { λ r. ⌜ r ≡ inRange s ⌝ }
 {
     let chip = s.chip;
-    if !chip_ok(chip) {
-        return false;
-    }
     let m = s.memory;
-    tables::memory_ok(m)
+    chip_ok(chip) & tables::memory_ok(m)
 }

@@ -10,34 +10,15 @@ ghost use Rattle.state.specs.Tables.{layoutOk, usedOk, entryOk, entryTes
 fn layout_ok(l: Layout) -> bool
     ensures { λ r. ⌜ r ≡ layoutOk l ⌝ }
 {
-    if 512 < l.prg_rom {
-        return false;
-    }
-    if 64 < l.prg_ram {
-        return false;
-    }
-    if 1 < l.battery_ext {
-        return false;
-    }
-    if 256 < l.chr {
-        return false;
-    }
-    if 4 < l.ciram {
-        return false;
-    }
-    1 <= l.ciram
+    (l.prg_rom <= 512)
+        & ((l.prg_ram <= 64)
+            & ((l.battery_ext <= 1) & ((l.chr <= 256) & ((l.ciram <= 4) & (1 <= l.ciram)))))
 }
 
 fn used_ok(used: usize, l: Layout) -> bool
     ensures { λ r. ⌜ r ≡ usedOk used l ⌝ }
 {
-    if used == 0 {
-        return true;
-    }
-    if used == 128 {
-        return 1 <= l.battery_ext;
-    }
-    false
+    (used == 0) | ((used == 128) & (1 <= l.battery_ext))
 }
 
 // An entry of an arena of so many bytes. No test is skipped, so that many entries are tested at a time.
@@ -84,14 +65,8 @@ pub fn memory_ok(m: Memory) -> bool
     if !layout_ok(layout) {
         return false;
     }
-    if !used_ok(m.battery_ext_len, layout) {
-        return false;
-    }
     let bytes = layout.arena_len() as u32;
     let prg = m.prg_pages;
-    if !prg_ok(bytes, prg) {
-        return false;
-    }
     let chr = m.chr_pages;
-    chr_ok(bytes, chr)
+    used_ok(m.battery_ext_len, layout) & (prg_ok(bytes, prg) & chr_ok(bytes, chr))
 }

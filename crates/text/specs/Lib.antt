@@ -1,5 +1,6 @@
 pub mod Words
-pub mod Hex
-pub mod Number
 pub mod Out
+pub mod Hex
+pub mod Decimal
+pub mod Number
 pub mod Adler

@@ -14,10 +14,12 @@ digitsAfter base n (b ∷ s) =
     cond (leb base (digitOf b)) Nothing
     (cond (ltb (n * base + digitOf b) 18446744073709551616) (digitsAfter base (n * base + digitOf b) s) Nothing)
 
+-- the number of some digits in a base; no digits are none
 unfoldable pub inBase : ℕ → List ℕ → Number
 inBase base [] = Nothing
 inBase base (b ∷ s) = digitsAfter base 0 (b ∷ s)
 
+-- the number that a word is: hexadecimal behind `$` (36), else decimal
 unfoldable pub numberOf : List ℕ → Number
 numberOf [] = Nothing
 numberOf (b ∷ s) = cond (eqb b 36) (inBase 16 s) (inBase 10 (b ∷ s))

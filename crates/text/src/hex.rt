@@ -1,7 +1,7 @@
 // Hexadecimal digits and pairs of them.
 ghost use mathlib.Core.Path.{_≡_};
 ghost use Prim.Native.Nat.{_≤_, _<_};
-ghost use Rattle.text.specs.Hex.{digitOf, glyphOf};
+ghost use Rattle.text.specs.Hex.{digitOf, glyphOf, decodedOf, decodedTo};
 
 // A digit's value in either case, or 16.
 pub fn digit(b: u8) -> u8
@@ -42,7 +42,10 @@ pub enum Decoded {
 }
 
 // Puts the bytes that pairs of digits name at the start of a buffer.
-pub fn decode(digits: &[u8], bytes: &mut [u8]) -> Decoded {
+pub fn decode(digits: &[u8], bytes: &mut [u8]) -> Decoded
+    ensures { λ r. ⌜ r ≡ decodedOf (now (digits .entry)) (now (bytes .entry)) ⌝ }
+    ensures { λ r. ⌜ now (bytes .exit) ≡ decodedTo (now (digits .entry)) (now (bytes .entry)) ⌝ }
+{
     let n = digits.len() / 2;
     if digits.len() % 2 == 1 {
         return Decoded::Nothing;

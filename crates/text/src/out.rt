@@ -1,5 +1,6 @@
 // Writing behind what a buffer holds already. What no longer fits is left out.
 ghost use mathlib.Core.Path.{_≡_};
+ghost use Rattle.text.specs.Decimal.{decimalOf};
 ghost use Rattle.text.specs.Hex.{hex8, hex16, hex32, hex64};
 ghost use Rattle.text.specs.Out.{putTo, putOne, putAll};
 use crate::hex::glyph;
@@ -27,7 +28,9 @@ pub fn put_all(out: &mut [u8], at: usize, bytes: &[u8]) -> usize
     end
 }
 
-pub fn put_decimal(out: &mut [u8], at: usize, n: u64) -> usize {
+pub fn put_decimal(out: &mut [u8], at: usize, n: u64) -> usize
+    ensures { λ r. ⌜ putTo (now (out .exit)) r ≡ putAll (putTo (now (out .entry)) at) (decimalOf n) ⌝ }
+{
     let mut digits = [0u8; 20];
     let k = io::decimal(n, &mut digits);
     put_all(out, at, &digits[..k])

@@ -87,9 +87,12 @@ cycle-agrees r h = ap irqOf (clock-plain r) ∙ go (leb 0x8000 (r .«irq_counter
             (λ p. ne-eqb (c % 0x8000 + 1) 0x7FFF (λ e. eqb-false (c + 1) 0xFFFF p (omega arith)))
 
         pending : (t : Bool)
-            → _≡_ {A = WikiIrq}
-            (record { count = r .«irq_counter» % 0x8000 + 1; enabled = true; raised = cond t true (r .«irq_pending») })
-            (record { count = r .«irq_counter» % 0x8000 + 1; enabled = true; raised = t || r .«irq_pending» })
+            → _≡_ {A = WikiIrq} (record {
+              count = r .«irq_counter» % 0x8000 + 1;
+              enabled = true;
+              raised = cond t true
+                  (r .«irq_pending»);
+            }) (record { count = r .«irq_counter» % 0x8000 + 1; enabled = true; raised = t || r .«irq_pending» })
         pending true = refl
         pending false = refl
 

@@ -84,7 +84,8 @@ e800-written w n a v q l h p r =
       three = (length-set (n .«prg_banks») 1 (v % 64) ∙ q .three .0, length-set (w .pages) 1 v ∙ q .three .1);
     })
 
-pub f000-written : (w : WikiRegs) (n : Namco163) (a v : ℕ) → Beside w n → 0xF000 ≤ a → a < 0xF800 → Beside (wikiWrite w a v) (writeF000 n v)
+pub f000-written : (w : WikiRegs) (n : Namco163) (a v : ℕ) → Beside w n → 0xF000 ≤ a → a < 0xF800
+    → Beside (wikiWrite w a v) (writeF000 n v)
 unfolding wikiWrite writeF000
 f000-written w n a v q l h =
     let e : (a - 0xE000) / 0x800 ≡ 2 = omega arith in

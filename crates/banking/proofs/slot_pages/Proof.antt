@@ -1,9 +1,10 @@
 -- `slot_pages` meets its contract: one window, and for a nametable its second.
 use native.Mathlib.Omega.{arith}
+use mir.Syntax.{w32}
+use mir.Facts.{toZ-pos}
 use borrow.Author.Needs.{needs}
 use borrow.Author.Tests.{lt-ltb, le-ltb}
 use Rattle.banking.specs.Banking.{slotPages}
-use Rattle.banking.proofs.Kept.{signed-byte}
 use Rattle.banking.proofs.slot_pages.Statement.{statement}
 use Rattle.banking.proofs.slot_pages.Tie as tie
 
@@ -13,7 +14,7 @@ returns c = (
   rw (
     lt-ltb _ _ (c .if1 .taken),
     c .before .mapped-chr-pages .ensures .0,
-    signed-byte (c .before .before .args .bank) (omega arith),
+    toZ-pos w32 {n = c .before .before .args .bank} (omega arith),
   ),
   c .before .mapped-chr-pages .ensures .1,
 )
@@ -26,7 +27,7 @@ returns-2 c =
         le-ltb _ _ (c1 .if1 .left),
         c .mapped-chr-pages2 .ensures .0,
         c2 .mapped-chr-pages .ensures .0,
-        signed-byte (c3 .args .bank) (omega arith),
+        toZ-pos w32 {n = c3 .args .bank} (omega arith),
       ),
       c .mapped-chr-pages2 .ensures .1,
     )

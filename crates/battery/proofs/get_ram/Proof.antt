@@ -2,6 +2,7 @@
 use Prim.Native.Nat.{_-_, _≤_}
 use mathlib.Core.Path.{_≡_, refl, _∙_}
 use native.Mathlib.Omega.{arith}
+use borrow.Author.Needs.{needs}
 use lib.ListN.{length, take, length-set}
 use Rattle.battery.proofs.Copy.{copy-more, copy-all}
 use Rattle.battery.proofs.get_ram.Statement.{statement}
@@ -15,18 +16,6 @@ abbrev μ-loop : tie.MeasureT-loop
 
 loop-holds : tie.Need-loop-holds Inv-loop μ-loop
 loop-holds c = (omega arith, refl, refl)
-
-shared-slice-read-ram : tie.Need-shared-slice-read-ram Inv-loop μ-loop
-shared-slice-read-ram c = omega arith
-
-array-write-ram : tie.Need-array-write-ram Inv-loop μ-loop
-array-write-ram c = omega arith
-
-add-i : tie.Need-add-i Inv-loop μ-loop
-add-i c = omega arith
-
-loop-less : tie.Need-loop-less Inv-loop μ-loop
-loop-less c = omega arith
 
 loop-again : tie.Need-loop-again Inv-loop μ-loop
 loop-again c =
@@ -51,9 +40,9 @@ get-ram-spec =
     Inv-loop
     μ-loop
     loop-holds
-    shared-slice-read-ram
-    array-write-ram
-    add-i
-    loop-less
+    (λ c. search needs)  -- shared-slice-read-ram
+    (λ c. search needs)  -- array-write-ram
+    (λ c. search needs)  -- add-i
+    (λ c. search needs)  -- loop-less
     loop-again
     returns)

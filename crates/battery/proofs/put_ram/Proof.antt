@@ -2,6 +2,7 @@
 use Prim.Native.Nat.{_-_, _≤_}
 use mathlib.Core.Path.{_≡_, refl, _∙_}
 use native.Mathlib.Omega.{arith}
+use borrow.Author.Needs.{needs}
 use lib.ListN.{length, take, length-set}
 use Rattle.battery.proofs.Copy.{copy-more, copy-all}
 use Rattle.sound.proofs.audio.Typed.{typed}
@@ -17,18 +18,6 @@ abbrev μ-loop : tie.MeasureT-loop
 loop-holds : tie.Need-loop-holds Inv-loop μ-loop
 loop-holds c = (omega arith, refl, c .before .pre)
 
-array-read-part : tie.Need-array-read-part Inv-loop μ-loop
-array-read-part c = omega arith
-
-slice-write-part : tie.Need-slice-write-part Inv-loop μ-loop
-slice-write-part c = omega arith
-
-add-i : tie.Need-add-i Inv-loop μ-loop
-add-i c = omega arith
-
-loop-less : tie.Need-loop-less Inv-loop μ-loop
-loop-less c = omega arith
-
 loop-again : tie.Need-loop-again Inv-loop μ-loop
 loop-again c =
     let c1 = c .before in let c3 = c1 .before .before in
@@ -37,9 +26,6 @@ loop-again c =
       copy-more (l .part) (c3 .args .audio .ram) (l .i) (omega arith) (omega (arith, t .«ram-length»)) (l .inv .1),
       length-set (l .part) _ _ ∙ l .inv .2,
     )
-
-same-length : tie.Need-same-length Inv-loop μ-loop
-same-length c = omega arith
 
 returns : tie.Need-returns Inv-loop μ-loop
 returns c =
@@ -55,10 +41,10 @@ put-ram-spec =
     Inv-loop
     μ-loop
     loop-holds
-    array-read-part
-    slice-write-part
-    add-i
-    loop-less
+    (λ c. search needs)  -- array-read-part
+    (λ c. search needs)  -- slice-write-part
+    (λ c. search needs)  -- add-i
+    (λ c. search needs)  -- loop-less
     loop-again
-    same-length
+    (λ c. search needs)  -- same-length
     returns)

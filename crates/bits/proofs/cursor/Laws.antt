@@ -13,7 +13,8 @@ use Rattle.bits.specs.Fields.{total, pack, unpack, Fit, after, times, ea
 use Rattle.bits.specs.Words.{wordOf, eights}
 use Rattle.bits.specs.Cursor.{Held, Wrote, bitsWritten, Behind, Read, bitsRead, start}
 use Rattle.bits.specs.declared.cursor.Cursor.{Cursor}
-use Rattle.bits.proofs.Fields.{total-append, pack-unpack, unpack-pack, fit-unpack, after-append, after-word, fit-length, fit-append, replicate-snoc, each-snoc, times-snoc, times-each, holds-take}
+use Rattle.bits.proofs.Fields.{total-append, pack-unpack, unpack-pack, fit-unpack, after-append, after-word, fit-length, fit-append, replicate-snoc, each-append, times-add, times-each}
+use Rattle.bits.proofs.Lists.{holds-take}
 use Rattle.bits.proofs.words.Laws.{total-eights, word-append, length-bytes, word-of-bytes, fit-bytes, bytes-of-word}
 
 -- ---- one field
@@ -102,8 +103,8 @@ pub read-none : (img : List ℕ) (r : Cursor) → Behind img r → Read img r r 
 unfolding after total pack
 read-none img r h = record { behind = h; pos = omega arith; fit = tt; bits = omega arith }
 
-pub read-append : (img : List ℕ) (p q r : Cursor) (ws vs us xs : List ℕ) → Read img p q ws vs → Read img q r us xs → Read img p r
-    (ws ++ us) (vs ++ xs)
+pub read-append : (img : List ℕ) (p q r : Cursor) (ws vs us xs : List ℕ) → Read img p q ws vs → Read img q r us xs
+    → Read img p r (ws ++ us) (vs ++ xs)
 read-append img p q r ws vs us xs f g = record {
   behind = g .behind;
   pos = omega (arith, total-append ws us, f .pos, g .pos);
@@ -141,8 +142,8 @@ wrote-word a b u v ws vs p =
       len = p .len;
     }
 
-pub read-word : (img : List ℕ) (p q : Cursor) (ws : List ℕ) (v : ℕ) → Read img p q (total ws ∷ []) (v ∷ []) → Read img p q ws
-    (unpack ws v)
+pub read-word : (img : List ℕ) (p q : Cursor) (ws : List ℕ) (v : ℕ) → Read img p q (total ws ∷ []) (v ∷ [])
+    → Read img p q ws (unpack ws v)
 unfolding total
 read-word img p q ws v f = record {
   behind = f .behind;
@@ -154,29 +155,19 @@ read-word img p q ws v f = record {
 
 -- ---- the fields of each element of an array
 
-module _ {A : Type 0} (f : A → List ℕ) (ws : List ℕ) (d : A) (h : (x : A) → length ws ≡ length (f x)) where
-  pub wrote-each : (a b c : List ℕ) (u v w : Cursor) (xs : List A) (i : ℕ) → i < length xs
-      → Wrote a b u v (times i ws) (each f (take i xs)) → Wrote b c v w ws (f (getD xs i d))
-      → Wrote a c u w (times (i + 1) ws) (each f (take (i + 1) xs))
-  wrote-each a b c u v w xs i l p q =
-      rw (← times-snoc i ws, add-one i, take-suc xs i d l, each-snoc f (take i xs) (getD xs i d))
-      (wrote-append a b c u v w (times i ws) (each f (take i xs)) ws (f (getD xs i d))
-      (times-each f ws h i (take i xs) (length-take-le i xs (omega arith))) p q)
-
-pub read-each : {A : Type 0} (f : A → List ℕ) (ws : List ℕ) (img : List ℕ) (p q r : Cursor) (xs : List A) (i : ℕ) (x : A)
-    → i < length xs
-    → Read img p q (times i ws) (each f (take i xs)) → Read img q r ws (f x)
-    → Read img p r (times (i + 1) ws) (each f (take (i + 1) (set xs i x)))
-read-each f ws img p q r xs i x l g k =
-    rw (← times-snoc i ws, add-one i, take-suc-set xs i x l, each-snoc f (take i xs) x)
-    (read-append img p q r (times i ws) (each f (take i xs)) ws (f x) g k)
+-- n more elements
+pub wrote-more : {A : Type 0} (f : A → List ℕ) (ws : List ℕ) → ((x : A) → length ws ≡ length (f x))
+    → (a b c : List ℕ) (u v w : Cursor) (xs : List A) (i n : ℕ) → i ≤ length xs
+    → Wrote a b u v (times i ws) (each f (take i xs)) → Wrote b c v w (times n ws) (each f (take n (drop i xs)))
+    → Wrote a c u w (times (i + n) ws) (each f (take (i + n) xs))
+wrote-more f ws h a b c u v w xs i n l p q =
+    rw (times-add i n ws, take-add i n xs, each-append f (take i xs) (take n (drop i xs)))
+    (wrote-append a b c u v w (times i ws) (each f (take i xs)) (times n ws) (each f (take n (drop i xs)))
+    (times-each f ws h i (take i xs) (length-take-le i xs l)) p q)
 
 -- ---- a whole slice
 
-pub start-held : Held start
-start-held = record { few = omega arith; small = omega arith }
-
-pub written-all : (img : List ℕ) (w : Cursor) → Held w → w .at * 8 + w .n ≡ length img * 8 → bitsWritten img w ≡ wordOf img
+written-all : (img : List ℕ) (w : Cursor) → Held w → w .at * 8 + w .n ≡ length img * 8 → bitsWritten img w ≡ wordOf img
 unfolding bitsWritten
 written-all img w h e =
     let n0 : w .n ≡ 0 = omega (arith, h .few) in
@@ -184,7 +175,7 @@ written-all img w h e =
     let z : w .acc ≡ 0 = lt-one (rw n0 at (h .small)) in
     rw (n0, a0, z, take-length img) (omega arith)
 
-pub written-start : (img : List ℕ) → bitsWritten img start ≡ 0
+written-start : (img : List ℕ) → bitsWritten img start ≡ 0
 unfolding bitsWritten pack
 written-start img = refl
 
@@ -196,10 +187,6 @@ finish img img′ w ws vs p e h =
     sym (written-all img′ w (p .held) (omega (arith, p .pos))) ∙ p .bits
     ∙ rw written-start (omega arith) in
     sym (bytes-of-word img′ h) ∙ ap (unpack (eights (length img′))) whole
-
-pub start-behind : (img : List ℕ) → Behind img start
-unfolding pack
-start-behind img = record { few = omega arith; inside = omega arith; last = refl }
 
 read-start : (img : List ℕ) → bitsRead img start ≡ 0
 unfolding bitsRead pack
@@ -213,8 +200,8 @@ read-all img r h e =
     rw (n0, a0, take-length img) (div-one (wordOf img))
 
 -- what was read of a whole image is its fields
-pub finish-read : (img : List ℕ) (r : Cursor) (ws vs : List ℕ) → Read img start r ws vs → total ws ≡ length img * 8 → unpack ws
-    (wordOf img) ≡ vs
+pub finish-read : (img : List ℕ) (r : Cursor) (ws vs : List ℕ) → Read img start r ws vs → total ws ≡ length img * 8
+    → unpack ws (wordOf img) ≡ vs
 unfolding after
 finish-read img r ws vs p e =
     let whole : wordOf img ≡ pack ws vs =
@@ -224,8 +211,8 @@ finish-read img r ws vs p e =
 -- ---- whole bytes
 
 pub bytes-wrote : (img img′ : List ℕ) (w w′ : Cursor) (xs : List ℕ) → w .n ≡ 0 → w .acc ≡ 0 → w .at + length xs ≤ length img
-    → img′ ≡ paste img (w .at) xs (length xs) → w′ .n ≡ 0 → w′ .acc ≡ 0 → w′ .at ≡ w .at + length xs → Wrote img img′ w w′
-    (eights (length xs)) xs
+    → img′ ≡ paste img (w .at) xs (length xs) → w′ .n ≡ 0 → w′ .acc ≡ 0 → w′ .at ≡ w .at + length xs
+    → Wrote img img′ w w′ (eights (length xs)) xs
 unfolding bitsWritten after
 bytes-wrote img img′ w w′ xs n a l e n′ a′ t = record {
   held = record { few = omega arith; small = rw (n′, a′) (omega arith) };

@@ -7,7 +7,7 @@ use native.Mathlib.Numerals.{add-one}
 use native.Mathlib.Omega.{arith}
 use lib.Pow.{pow-add, pow-mono, shl-exact}
 use lib.ListN.{length, take, drop, set, getD, length-append, length-replicate, replicate-append-replicate, length-drop}
-use lib.Seq.{take-suc, getD-drop, paste, paste-suc}
+use lib.Seq.{take-suc, take-suc-set, getD-drop, paste, paste-suc}
 use Rattle.bits.specs.Fields.{total, pack, unpack, Fit}
 use Rattle.bits.specs.Words.{wordOf, eights}
 use Rattle.bits.proofs.Fields.{pack-append, pack-unpack, unpack-pack, length-unpack}
@@ -93,3 +93,16 @@ fit-bytes (x ∷ xs) h = (h 0, fit-bytes xs (λ i. h (suc i)))
 -- bytes are those of their number
 pub bytes-of-word : (xs : List ℕ) → ((i : ℕ) → getD xs i 0 < 2 ^ 8) → unpack (eights (length xs)) (wordOf xs) ≡ xs
 bytes-of-word xs h = unpack-pack (eights (length xs)) xs (fit-bytes xs h)
+
+-- ---- copying byte after byte
+
+pub copy-suc : (img xs : List ℕ) (at j : ℕ) → j < length xs → at + j < length img → take j xs ≡ take j (drop at img)
+    → take (j + 1) (set xs j (getD img (at + j) 0)) ≡ take (j + 1) (drop at img)
+copy-suc img xs at j h l e =
+    rw (
+      add-one j,
+      take-suc-set xs j (getD img (at + j) 0) h,
+      take-suc (drop at img) j 0 (omega (arith, length-drop at img)),
+      getD-drop at img j 0,
+      e,
+    )

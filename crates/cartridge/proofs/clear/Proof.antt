@@ -2,6 +2,7 @@
 use Prim.Native.Nat.{_-_, _≤_}
 use mathlib.Core.Path.{_≡_, refl, _∙_}
 use native.Mathlib.Omega.{arith}
+use borrow.Author.Needs.{needs}
 use lib.ListN.{length, take, replicate, length-set}
 use Rattle.cartridge.proofs.Zeros.{clear-more, clear-all}
 use Rattle.cartridge.proofs.clear.Statement.{statement}
@@ -16,22 +17,10 @@ abbrev μ-loop : tie.MeasureT-loop
 loop-holds : tie.Need-loop-holds Inv-loop μ-loop
 loop-holds c = (omega arith, refl, refl)
 
-slice-write-arena : tie.Need-slice-write-arena Inv-loop μ-loop
-slice-write-arena c = omega arith
-
-add-i : tie.Need-add-i Inv-loop μ-loop
-add-i c = omega arith
-
-loop-less : tie.Need-loop-less Inv-loop μ-loop
-loop-less c = omega arith
-
 loop-again : tie.Need-loop-again Inv-loop μ-loop
 loop-again c =
     let l = c .before .loop in
     (rw length-set (omega arith), clear-more (l .arena) (l .i) (omega arith) (l .inv .1), length-set (l .arena) _ _ ∙ l .inv .2)
-
-same-length : tie.Need-same-length Inv-loop μ-loop
-same-length c = omega arith
 
 returns : tie.Need-returns Inv-loop μ-loop
 returns c =
@@ -46,9 +35,9 @@ clear-spec =
     Inv-loop
     μ-loop
     loop-holds
-    slice-write-arena
-    add-i
-    loop-less
+    (λ c. search needs)  -- slice-write-arena
+    (λ c. search needs)  -- add-i
+    (λ c. search needs)  -- loop-less
     loop-again
-    same-length
+    (λ c. search needs)  -- same-length
     returns)

@@ -1,6 +1,6 @@
 -- `fresh_state` meets its contract.
 use borrow.Author.Needs.{needs}
-use Rattle.cartridge.specs.Load.{freshState}
+use Rattle.cartridge.specs.Cartridge.{freshState}
 use Rattle.cartridge.proofs.Laws.{sized-load}
 use Rattle.cartridge.proofs.fresh_state.Statement.{statement}
 use Rattle.cartridge.proofs.fresh_state.Tie as tie

@@ -1,11 +1,12 @@
 -- `load` meets its contract: refused, and accepted.
-use mathlib.Core.Path.{sym, _∙_}
+use mathlib.Core.Path.{_≡_, sym, _∙_}
 use native.Mathlib.Omega.{arith}
 use borrow.Author.Needs.{needs}
 use borrow.Author.Tests.{ne-eqb}
 use lib.ListN.{length}
-use Rattle.cartridge.specs.Load.{loadAnswer, loadArena}
-use Rattle.cartridge.proofs.Laws.{load-good}
+use Rattle.refusals.specs.Refusals.{firstOf, loadChecks}
+use Rattle.cartridge.specs.Cartridge.{loadAnswer, loadArena}
+use Rattle.cartridge.proofs.Laws.{LoadGood, load-good}
 use Rattle.cartridge.proofs.load.Statement.{statement}
 use Rattle.cartridge.proofs.load.Tie as tie
 
@@ -17,26 +18,25 @@ returns c =
       rw (← c2 .load-refusal .ensures, ne-eqb _ _ (c1 .if1 .taken)),
     )
 
+-- none of the checks holds
+accepted : (c : tie.Else1) → let a = c .before .before .before .args in
+    firstOf (loadChecks (a .mapper) (a .sizes) (length (a .arena .now))) ≡ 0
+accepted c = sym (c .before .load-refusal .ensures) ∙ c .if1 .left
+
+good : (c : tie.Else1) → let a = c .before .before .before .args in LoadGood (a .mapper) (a .sizes)
+good c = load-good _ _ _ (accepted c)
+
 cast-fresh-state : tie.Need-cast-fresh-state
-cast-fresh-state c =
-    let c4 = c .before .before .before .before in let c5 = c4 .before in let c7 = c5 .before .before in
-    omega (
-      arith,
-      (let a = c7 .args in load-good (a .mapper) (a .sizes) (length (a .arena .now))
-          (sym (c5 .load-refusal .ensures) ∙ c4 .if1 .left)) .small,
-    )
+cast-fresh-state c = omega (arith, good (c .before .before .before .before) .small)
 
 fresh-state-requires : tie.Need-fresh-state-requires
-fresh-state-requires c κs =
-    let c4 = c .before .before .before .before in let c5 = c4 .before in let c7 = c5 .before .before in
-    (let a = c7 .args in load-good (a .mapper) (a .sizes) (length (a .arena .now))
-    (sym (c5 .load-refusal .ensures) ∙ c4 .if1 .left)) .fits
+fresh-state-requires c κs = good (c .before .before .before .before) .fits
 
 returns-2 : tie.Need-returns-2
 unfolding loadAnswer loadArena
 returns-2 c =
-    let c3 = c .before .before .before in let c5 = c3 .before .before in let c6 = c5 .before in
-    let e = sym (c6 .load-refusal .ensures) ∙ c5 .if1 .left in (rw (e, c .fresh-state .ensures), rw e (c3 .clear .ensures))
+    let c3 = c .before .before .before in
+    let e = accepted (c3 .before .before) in (rw (e, c .fresh-state .ensures), rw e (c3 .clear .ensures))
 
 pub load-spec : {M : Type 1} → statement M
 load-spec =

@@ -1,7 +1,7 @@
 -- `memory_at_load` meets its contract.
 use borrow.Author.Needs.{needs}
 use borrow.Author.Tests.{eq-eqb, ne-eqb}
-use Rattle.cartridge.specs.Load.{memoryAtLoad}
+use Rattle.cartridge.specs.Cartridge.{memoryAtLoad}
 use Rattle.cartridge.proofs.memory_at_load.Statement.{statement}
 use Rattle.cartridge.proofs.memory_at_load.Tie as tie
 

@@ -1,6 +1,6 @@
 -- `no_chip` meets its contract.
 use borrow.Author.Needs.{needs}
-use Rattle.cartridge.specs.Load.{noState}
+use Rattle.cartridge.specs.Cartridge.{noState}
 use Rattle.cartridge.proofs.no_chip.Statement.{statement}
 use Rattle.cartridge.proofs.no_chip.Tie as tie
 

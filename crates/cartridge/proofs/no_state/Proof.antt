@@ -1,6 +1,6 @@
 -- `no_state` meets its contract.
 use borrow.Author.Needs.{needs}
-use Rattle.cartridge.specs.Load.{noState}
+use Rattle.cartridge.specs.Cartridge.{noState}
 use Rattle.cartridge.proofs.no_state.Statement.{statement}
 use Rattle.cartridge.proofs.no_state.Tie as tie
 

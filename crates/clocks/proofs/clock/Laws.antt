@@ -46,45 +46,43 @@ rises-up : (c : ℕ) → 0x8000 ≤ c → suc c ≡ 0xFFFF → risesFrom c ≡ t
 unfolding risesFrom
 rises-up c l h = rw (going c l (omega arith), next-up c l (omega arith)) (eq-eqb (suc c) 0xFFFF h)
 
--- ---- n clocks
+-- ---- n clocks: the registers that they leave, and the clock of the rise, or 0
 
-pub run-stopped : (n : ℕ) (r : Regs) → moves (r .«irq_counter») ≡ false → counterRun n r ≡ r
-unfolding counterRun
-run-stopped zero r h = refl
-run-stopped (suc n) r h = rw (run-stopped n r h) (stays r h)
+pub record Ran (n : ℕ) (r after : Regs) (rises : ℕ) : Type 0 where
+  pub regs : counterRun n r ≡ after
+  pub rise : counterRise n r ≡ rises
 
-pub rise-stopped : (n : ℕ) (r : Regs) → moves (r .«irq_counter») ≡ false → counterRise n r ≡ 0
-unfolding counterRise
-rise-stopped zero r h = refl
-rise-stopped (suc n) r h = rw (run-stopped n r h, quiet (r .«irq_counter») h) (rise-stopped n r h)
+pub stopped : (n : ℕ) (r : Regs) → moves (r .«irq_counter») ≡ false → Ran n r r 0
+unfolding counterRun counterRise
+stopped zero r h = record { regs = refl; rise = refl }
+stopped (suc n) r h =
+    let g = stopped n r h in
+    record { regs = rw (g .regs) (stays r h); rise = rw (g .regs, quiet (r .«irq_counter») h) (g .rise) }
 
 -- before the end
-pub run-up : (n : ℕ) (r : Regs) → 0x8000 ≤ r .«irq_counter» → r .«irq_counter» + n < 0xFFFF
-    → counterRun n r ≡ withCounter r (r .«irq_counter» + n) (r .«irq_pending»)
-unfolding counterRun clockCounter
-run-up zero r l h = let e : r .«irq_counter» + 0 ≡ r .«irq_counter» = omega arith in rw e
-run-up (suc n) r l h =
+pub goes-up : (n : ℕ) (r : Regs) → 0x8000 ≤ r .«irq_counter» → r .«irq_counter» + n < 0xFFFF
+    → Ran n r (withCounter r (r .«irq_counter» + n) (r .«irq_pending»)) 0
+unfolding counterRun counterRise clockCounter
+goes-up zero r l h = let e : r .«irq_counter» + 0 ≡ r .«irq_counter» = omega arith in record { regs = rw e; rise = refl }
+goes-up (suc n) r l h =
     let c = r .«irq_counter» in
+    let g = goes-up n r l (omega arith) in
+    let quietly = quiet-up (c + n) (omega arith) (omega arith) in
     let e : c + suc n ≡ suc (c + n) = omega arith in
-    rw (run-up n r l (omega arith), next-up (c + n) (omega arith) (omega arith), quiet-up (c + n) (omega arith) (omega arith), e)
-
-pub rise-up : (n : ℕ) (r : Regs) → 0x8000 ≤ r .«irq_counter» → r .«irq_counter» + n < 0xFFFF → counterRise n r ≡ 0
-unfolding counterRise
-rise-up zero r l h = refl
-rise-up (suc n) r l h =
-    let c = r .«irq_counter» in
-    rw (run-up n r l (omega arith), quiet-up (c + n) (omega arith) (omega arith)) (rise-up n r l (omega arith))
+    record {
+      regs = rw (g .regs, next-up (c + n) (omega arith) (omega arith), quietly, e);
+      rise = rw (g .regs, quietly) (g .rise);
+    }
 
 -- d clocks from the end, and more
-record Ended (n : ℕ) (r : Regs) (d : ℕ) : Type 0 where
-  regs : counterRun n r ≡ withCounter r 0xFFFF true
-  rise : counterRise n r ≡ d
+abbrev Ended : ℕ → Regs → ℕ → Type 0
+Ended n r d = Ran n r (withCounter r 0xFFFF true) d
 
 ended-now : (d : ℕ) (r : Regs) → 0x8000 ≤ r .«irq_counter» → r .«irq_counter» + suc d ≡ 0xFFFF → Ended (suc d) r (suc d)
 unfolding counterRun counterRise clockCounter
 ended-now d r l h =
     let c = r .«irq_counter» in
-    let u = run-up d r l (omega arith) in
+    let u = goes-up d r l (omega arith) .regs in
     let e : suc (c + d) ≡ 0xFFFF = omega arith in
     record {
       regs = rw (u, next-up (c + d) (omega arith) (omega arith), rises-up (c + d) (omega arith) e, e);
@@ -99,18 +97,11 @@ ended-more n d r h =
       rise = rw (h .regs, quiet 0xFFFF (top-stops 0xFFFF refl)) (h .rise);
     }
 
-ended : (n d : ℕ) (r : Regs) → 0x8000 ≤ r .«irq_counter» → r .«irq_counter» + suc d ≡ 0xFFFF → suc d ≤ n → Ended n r (suc d)
-ended zero d r l h k = absurd (omega arith)
-ended (suc n) d r l h k = by (eq-or-lt-of-le {n = d} {m = n} (omega arith)) (ended n d r l h)
+pub ends : (n d : ℕ) (r : Regs) → 0x8000 ≤ r .«irq_counter» → r .«irq_counter» + suc d ≡ 0xFFFF → suc d ≤ n
+    → Ran n r (withCounter r 0xFFFF true) (suc d)
+ends zero d r l h k = absurd (omega arith)
+ends (suc n) d r l h k = by (eq-or-lt-of-le {n = d} {m = n} (omega arith)) (ends n d r l h)
   where
     by : (d ≡ n) ⊎ (d < n) → (suc d ≤ n → Ended n r (suc d)) → Ended (suc n) r (suc d)
     by (inl e) ih = rw (← e) (ended-now d r l h)
     by (inr g) ih = ended-more n (suc d) r (ih (omega arith))
-
-pub run-top : (n d : ℕ) (r : Regs) → 0x8000 ≤ r .«irq_counter» → r .«irq_counter» + suc d ≡ 0xFFFF → suc d ≤ n
-    → counterRun n r ≡ withCounter r 0xFFFF true
-run-top n d r l h k = ended n d r l h k .regs
-
-pub rise-top : (n d : ℕ) (r : Regs) → 0x8000 ≤ r .«irq_counter» → r .«irq_counter» + suc d ≡ 0xFFFF → suc d ≤ n → counterRise n r
-    ≡ suc d
-rise-top n d r l h k = ended n d r l h k .rise

@@ -4,11 +4,10 @@ use mathlib.Core.Path.{_≡_, refl, sym, ap, _∙_}
 use mathlib.Core.Bool.{Bool, true, false, cond}
 use mathlib.Core.List.{List, [], _++_, append-nil}
 use native.Mathlib.Numerals.{add-one}
-use native.Mathlib.Omega.{arith}
-use lib.Dec.{eqb, leb}
+use borrow.Author.Needs.{needs}
+use lib.Dec.{eqb}
 use lib.Ieee.{Float}
 use lib.ListN.{length}
-use Rattle.cut.specs.Calls.{Point}
 use Rattle.cut.specs.Machine.{ofOption, ticks}
 use Rattle.cut.specs.Contract.{lastOr, runBy}
 use Rattle.cut.specs.Counter.{risesFrom}
@@ -20,13 +19,11 @@ use Rattle.sound.proofs.run.Laws.{run-cut, samples-cut, made-closed}
 use Rattle.chip.specs.declared.namco163.Namco163.{Namco163}
 use Rattle.chip.specs.Namco163.{is163, withRegs, withAudio}
 use Rattle.state.specs.declared.State.{State}
-use Rattle.state.specs.State.{withChip, inRange, chipOk, mapperOk, bankTest}
+use Rattle.state.specs.State.{withChip, inRange}
 use Rattle.clocks.specs.Clock.{soundSample, chipClock, stateClock, counterRun, counterRise}
-use Rattle.clocks.specs.Run.{clocks, made, runChecks}
-use borrow.Author.Tests.{leb-true, ltb-false}
-use Rattle.state.specs.Audio.{audioOk}
-use Rattle.state.specs.Every.{every}
-use Rattle.state.proofs.Every.{and-left, and-right, was-true}
+use Rattle.clocks.specs.Run.{clocks, made, runChecks, runGave}
+use borrow.Author.Tests.{ltb-false}
+use Rattle.state.proofs.Every.{was-true}
 use Rattle.refusals.specs.Refusals.{firstOf}
 use Rattle.refusals.proofs.Laws.{accepted-none}
 
@@ -67,21 +64,18 @@ unfolding chipAfter chipClock counterRun
 chip-more true n c e = rw (e, run-more n (c .audio))
 chip-more false n c e = rw e
 
-chip-rise : (t : Bool) (n : ℕ) (c : Namco163) → chipClock (chipAfter t n c) .rise ≡ risesFrom
-    (counterRun n (c .regs) .«irq_counter»)
-unfolding chipAfter chipClock
-chip-rise true n c = go (is163 (c .board)) refl
+clock-rise : (c : Namco163) → chipClock c .rise ≡ risesFrom (c .regs .«irq_counter»)
+unfolding chipClock
+clock-rise c = go (is163 (c .board)) refl
   where
-    go : (t : Bool) → is163 (c .board) ≡ t
-        → chipClock (chipAfter true n c) .rise ≡ risesFrom (counterRun n (c .regs) .«irq_counter»)
+    go : (t : Bool) → is163 (c .board) ≡ t → chipClock c .rise ≡ risesFrom (c .regs .«irq_counter»)
     go true e = rw e
     go false e = rw e
-chip-rise false n c = go (is163 (c .board)) refl
-  where
-    go : (t : Bool) → is163 (c .board) ≡ t
-        → chipClock (chipAfter false n c) .rise ≡ risesFrom (counterRun n (c .regs) .«irq_counter»)
-    go true e = rw e
-    go false e = rw e
+
+chip-rise : (t : Bool) (n : ℕ) (c : Namco163) → chipClock (chipAfter t n c) .rise ≡ risesFrom (counterRun n (c .regs) .«irq_counter»)
+unfolding chipAfter
+chip-rise true n c = clock-rise (chipAfter true n c)
+chip-rise false n c = clock-rise (chipAfter false n c)
 
 samplesAfter : Bool → ℕ → Namco163 → List Float
 samplesAfter sounds n c = cond sounds (samplesOf n (c .audio)) []
@@ -124,8 +118,7 @@ pub sounds-state : (n : ℕ) (s : State) → is163 (s .chip .board) ≡ true
 unfolding chipAfter
 sounds-state n s e = after-state s true e n
 
-pub sounds-samples : (n : ℕ) (s : State) → is163 (s .chip .board) ≡ true → clocks n s .stretch .samples ≡ samplesOf n
-    (s .chip .audio)
+pub sounds-samples : (n : ℕ) (s : State) → is163 (s .chip .board) ≡ true → clocks n s .stretch .samples ≡ samplesOf n (s .chip .audio)
 unfolding samplesAfter
 sounds-samples n s e = after-samples s true e n
 
@@ -149,26 +142,11 @@ unfolding made
 made-floor n s u = go (is163 (s .chip .board)) refl
   where
     go : (t : Bool) → is163 (s .chip .board) ≡ t
-        → made n s ≡ cond (is163 (s .chip .board))
-        (cond (s .chip .audio .disabled) 0 ((s .chip .audio .«update_counter» + n) / 15)) 0
-    go true e = rw (sounds-samples n s e, e) (made-closed n (s .chip .audio) u)
-    go false e = rw (silent-samples n s e, e)
+        → made n s ≡ cond t (cond (s .chip .audio .disabled) 0 ((s .chip .audio .«update_counter» + n) / 15)) 0
+    go true e = rw (sounds-samples n s e) (made-closed n (s .chip .audio) u)
+    go false e = rw (silent-samples n s e)
 
--- ---- what the range test and the checks give
-
-chip-good : (s : State) → inRange s ≡ true → chipOk (s .chip) ≡ true
-unfolding inRange
-chip-good s e = and-left (chipOk (s .chip)) _ e
-
-pub sound-ok : (s : State) → inRange s ≡ true → audioOk (s .chip .audio) ≡ true
-unfolding chipOk
-sound-ok s e =
-    let n = s .chip in
-    and-right (every 3 (bankTest (n .«prg_banks»))) _ (and-right (mapperOk (n .«mapper_num»)) _ (chip-good s e))
-
-pub counter-small : (s : State) → inRange s ≡ true → s .chip .audio .«update_counter» ≤ 14
-unfolding audioOk
-counter-small s e = leb-true _ _ (and-left (leb (s .chip .audio .«update_counter») 14) _ (sound-ok s e))
+-- ---- refused runs, and what an accepted one knows
 
 pub record RunGood (s : State) (n room : ℕ) : Type 0 where
   pub good : inRange s ≡ true
@@ -178,7 +156,7 @@ pub record RunGood (s : State) (n room : ℕ) : Type 0 where
 pub run-good : (s : State) (n room : ℕ) → firstOf (runChecks s n room) ≡ 0 → RunGood s n room
 unfolding made
 run-good s n room e =
-    let h = accepted-none (runChecks s n room) (omega arith, (omega arith, (omega arith, tt))) e in
+    let h = accepted-none (runChecks s n room) (search needs) e in
     record {
       good = was-true (inRange s) (h .0);
       short = ltb-false 65536 n (h .1 .0);
@@ -186,7 +164,11 @@ run-good s n room e =
           (h .1 .1 .0);
     }
 
-pub refused-run : (q : ℕ) (t : Point State Float) (lent : List Float) (s : State) → (q ≡ 0 → ⊥)
-    → runBy q t lent s ≡ record { refusal = q; made = 0; rise = 0; samples = lent; state = s }
-refused-run zero t lent s h = absurd (h refl)
-refused-run (suc q) t lent s h = refl
+pub refused-run : (s : State) (n : ℕ) (lent : List Float) (q : ℕ) → q ≡ firstOf (runChecks s n (length lent)) → (q ≡ 0 → ⊥)
+    → runGave s n lent ≡ record { refusal = q; made = 0; rise = 0; samples = lent; state = s }
+unfolding runGave
+refused-run s n lent q e h = rw (← e) (go q h)
+  where
+    go : (q : ℕ) → (q ≡ 0 → ⊥) → runBy q (clocks n s) lent s ≡ record { refusal = q; made = 0; rise = 0; samples = lent; state = s }
+    go zero h = absurd (h refl)
+    go (suc q) h = refl

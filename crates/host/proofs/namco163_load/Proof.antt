@@ -1,16 +1,16 @@
 -- `namco163_load` meets its contract: refused by the image, refused by the load, and accepted.
-use mathlib.Core.Path.{sym, ap, _∙_}
+use mathlib.Core.Path.{_≡_, sym, ap, _∙_}
 use mathlib.Core.List.{_∷_}
 use lib.ListN.{length}
 use borrow.Author.Needs.{needs}
 use Rattle.cartridge.specs.declared.Loaded.{Loaded}
-use Rattle.refusals.specs.Refusals.{loadChecks}
-use Rattle.cartridge.specs.Load.{freshState}
+use Rattle.refusals.specs.Refusals.{firstOf, loadChecks}
+use Rattle.cartridge.specs.Cartridge.{freshState}
 use Rattle.image.specs.Writing.{imageCheck, writtenImage}
 use Rattle.range.proofs.Refused.{load-number, load-refused}
 use Rattle.range.proofs.Calls.{load-fits}
 use Rattle.host.specs.Host.{yes, sizesOf, loadGives, hostLoad}
-use Rattle.host.proofs.Laws.{not-307, is-307, call-refused, call-accepted, word-of, image-of, lent-of, written-in-range, load-state}
+use Rattle.host.proofs.Laws.{not-307, is-307, Called, called, word-of, image-of, lent-of, written-in-range, load-state}
 use Rattle.host.proofs.namco163_load.Statement.{statement}
 use Rattle.host.proofs.namco163_load.Tie as tie
 
@@ -24,28 +24,35 @@ returns c =
     (loadGives (a .arena .now) (a .mapper) (a .submapper) (a .flags) (a .in-database) sizes) (c .if1 .taken) in
     (word-of e, (image-of e, lent-of e))
 
+-- the load's number
+number : (c : tie.After-load) → let a = c .before .before .before .before .before .args in
+    c .load .result .refusal ≡ firstOf
+    (loadChecks (a .mapper) (sizesOf (a .prg-rom) (a .prg-ram) (a .battery) (a .chr) (a .chr-ram) (a .ciram))
+    (length (a .arena .now)))
+number c =
+    let a = c .before .before .before .before .before .args in
+    ap (λ (x : Loaded). x .refusal) (c .load .ensures .0)
+    ∙ load-number (a .mapper) (a .submapper) (a .flags) (yes (a .in-database)) _ (length (a .arena .now))
+
+call : (c : tie.After-load) → let a = c .before .before .before .before .before .args in
+    let sizes = sizesOf (a .prg-rom) (a .prg-ram) (a .battery) (a .chr) (a .chr-ram) (a .ciram) in
+    Called (imageCheck (length (a .image .now)) ∷ loadChecks (a .mapper) sizes (length (a .arena .now))) (a .image .now) (a .arena .now)
+    (loadGives (a .arena .now) (a .mapper) (a .submapper) (a .flags) (a .in-database) sizes) (c .load .result .refusal)
+call c =
+    called _ _ _ _ _ (number c ∙ is-307 (c .before .before .before .before .before .args .image .now) _ (c .before .before .if1 .left))
+
 returns-2 : tie.Need-returns-2
 unfolding hostLoad
 returns-2 c =
-    let c1 = c .before in let c5 = c1 .before .before .before .before in let c7 = c5 .before .before in
-    let c10 = c7 .before .before .before in
-    let a = c10 .args in
-    let img = a .image .now in
-    let arena = a .arena .now in
-    let sizes = sizesOf (a .prg-rom) (a .prg-ram) (a .battery) (a .chr) (a .chr-ram) (a .ciram) in
-    let cs = loadChecks (a .mapper) sizes (length arena) in
-    let r = c5 .load in
-    let q = ap (λ (x : Loaded). x .refusal) (r .ensures .0)
-    ∙ load-number (a .mapper) (a .submapper) (a .flags) (yes (a .in-database)) sizes (length arena) in
+    let c1 = c .before in let c5 = c1 .before .before .before .before in
+    let a = c5 .before .before .before .before .before .args in
     let h = c1 .if2 .taken in
-    let e =
-    call-refused (imageCheck (length img) ∷ cs) img arena
-    (loadGives arena (a .mapper) (a .submapper) (a .flags) (a .in-database) sizes) (r .result .refusal)
-    (q ∙ is-307 img cs (c7 .if1 .left)) h in (
+    let e = call c5 .refused h in (
       word-of e,
       (
         image-of e,
-        r .ensures .1 ∙ load-refused (a .mapper) (a .submapper) (a .flags) (yes (a .in-database)) sizes arena (λ z. h (q ∙ z)) .1
+        c5 .load .ensures .1
+            ∙ load-refused (a .mapper) (a .submapper) (a .flags) (yes (a .in-database)) _ (a .arena .now) (λ z. h (number c5 ∙ z)) .1
             ∙ lent-of e,
       ),
     )
@@ -54,31 +61,23 @@ returns-3 : tie.Need-returns-3
 unfolding hostLoad
 returns-3 c =
     let c2 = c .before .before in let c5 = c2 .before .before .before in let c9 = c5 .before .before .before .before in
-    let c11 = c9 .before .before in let c14 = c11 .before .before .before in
-    let a = c14 .args in
+    let a = c9 .before .before .before .before .before .args in
     let img = a .image .now in
-    let arena = a .arena .now in
     let known = yes (a .in-database) in
     let sizes = sizesOf (a .prg-rom) (a .prg-ram) (a .battery) (a .chr) (a .chr-ram) (a .ciram) in
-    let cs = loadChecks (a .mapper) sizes (length arena) in
-    let r = c9 .load in
-    let q = ap (λ (x : Loaded). x .refusal) (r .ensures .0)
-    ∙ load-number (a .mapper) (a .submapper) (a .flags) known sizes (length arena) in
+    let r = c9 .load .ensures in
     let z = c5 .if2 .left in
-    let l = c11 .if1 .left in
-    let e =
-    call-accepted (imageCheck (length img) ∷ cs) img arena
-    (loadGives arena (a .mapper) (a .submapper) (a .flags) (a .in-database) sizes) (r .result .refusal)
-    (q ∙ is-307 img cs l) z in
-    let f = load-fits (a .mapper) (a .submapper) (a .flags) known sizes arena (sym q ∙ z) in (
+    let n = sym (number c9) ∙ z in
+    let e = call c9 .accepted z in (
       word-of e,
       (
         c2 .write-image .ensures .1
-            ∙ ap (λ (x : Loaded). writtenImage (x .state) img) (r .ensures .0)
-            ∙ ap (λ x. writtenImage x img) (load-state (a .mapper) (a .submapper) (a .flags) known sizes (length arena) (sym q ∙ z))
-            ∙ written-in-range (freshState (a .mapper) (a .submapper) (a .flags) known sizes) img l (f .range)
+            ∙ ap (λ (x : Loaded). writtenImage (x .state) img) (r .0)
+            ∙ ap (λ x. writtenImage x img) (load-state (a .mapper) (a .submapper) (a .flags) known sizes (length (a .arena .now)) n)
+            ∙ written-in-range (freshState (a .mapper) (a .submapper) (a .flags) known sizes) img (c9 .before .before .if1 .left)
+            (load-fits (a .mapper) (a .submapper) (a .flags) known sizes (a .arena .now) n .range)
             ∙ image-of e,
-        r .ensures .1 ∙ lent-of e,
+        r .1 ∙ lent-of e,
       ),
     )
 

@@ -16,14 +16,15 @@ use Rattle.bits.proofs.Fields.{each-snoc}
 use Rattle.bits.proofs.words.Laws.{length-bytes}
 use Rattle.cut.specs.Calls.{Point}
 use Rattle.cut.specs.Contract.{lastOr, runBy}
-use Rattle.sound.proofs.Range.{samples-number}
+use Rattle.sound.proofs.Range.Run.{samples-number}
 use Rattle.chip.specs.Namco163.{is163}
 use Rattle.state.specs.declared.State.{State}
 use Rattle.state.specs.State.{inRange}
 use Rattle.refusals.specs.Refusals.{firstOf}
 use Rattle.clocks.specs.declared.run.Ran.{Ran}
 use Rattle.clocks.specs.Run.{clocks, made, runChecks, ranOf}
-use Rattle.clocks.proofs.run.Laws.{run-good, made-floor, counter-small, sounds-samples, silent-samples}
+use Rattle.state.proofs.StateRange.{counter-small}
+use Rattle.clocks.proofs.run.Laws.{run-good, made-floor, sounds-samples, silent-samples}
 use Rattle.range.specs.Typed.{Typed}
 use Rattle.range.proofs.State.{state-in}
 use Rattle.host.specs.Host.{sampleBytes, runIn, HoldsRun}
@@ -74,29 +75,22 @@ put-more xs l j h r =
 
 -- ---- a run's room
 
--- no run makes more than (14 + 65,536) / 15 samples
+made-bound : (s : State) (n : ℕ) → inRange s ≡ true → made n s ≤ (14 + n) / 15
+made-bound s n e = omega (arith, made-floor n s u, by (is163 (s .chip .board)) (s .chip .audio .disabled))
+  where
+    u : s .chip .audio .«update_counter» ≤ 14
+    u = counter-small s e
+
+    by : (b d : Bool) → cond b (cond d 0 ((s .chip .audio .«update_counter» + n) / 15)) 0 ≤ (14 + n) / 15
+    by true true = omega arith
+    by true false = omega (arith, u)
+    by false d = omega arith
+
 pub made-most : (s : State) (n : ℕ) → inRange s ≡ true → n ≤ 65536 → made n s ≤ 4370
-made-most s n e h = omega (arith, made-floor n s u, most (is163 (s .chip .board)) (s .chip .audio .disabled))
-  where
-    u : s .chip .audio .«update_counter» ≤ 14
-    u = counter-small s e
+made-most s n e h = omega (arith, made-bound s n e)
 
-    most : (b d : Bool) → cond b (cond d 0 ((s .chip .audio .«update_counter» + n) / 15)) 0 ≤ 4370
-    most true true = omega arith
-    most true false = omega (arith, u)
-    most false d = omega arith
-
--- and no short run more than 128
 pub made-few : (s : State) (n : ℕ) → inRange s ≡ true → n ≤ 1920 → made n s ≤ 128
-made-few s n e h = omega (arith, made-floor n s u, few (is163 (s .chip .board)) (s .chip .audio .disabled))
-  where
-    u : s .chip .audio .«update_counter» ≤ 14
-    u = counter-small s e
-
-    few : (b d : Bool) → cond b (cond d 0 ((s .chip .audio .«update_counter» + n) / 15)) 0 ≤ 128
-    few true true = omega arith
-    few true false = omega (arith, u)
-    few false d = omega arith
+made-few s n e h = omega (arith, made-bound s n e)
 
 -- so more room than a buffer that holds the run changes nothing
 pub room-enough : (s : State) (n room places : ℕ) → HoldsRun s n places
@@ -117,8 +111,8 @@ run-number zero t lent s = refl
 run-number (suc q) t lent s = refl
 
 -- the answer does not look at the lent samples
-pub answer-alone : (q : ℕ) (t : Point State Float) (lent other : List Float) (s : State) → ranOf (runBy q t lent s) ≡ ranOf
-    (runBy q t other s)
+pub answer-alone : (q : ℕ) (t : Point State Float) (lent other : List Float) (s : State)
+    → ranOf (runBy q t lent s) ≡ ranOf (runBy q t other s)
 answer-alone zero t lent other s = refl
 answer-alone (suc q) t lent other s = refl
 
@@ -179,8 +173,8 @@ pub samples-numbers : (s : State) (n : ℕ) → Typed s → inRange s ≡ true �
     → T (not (isNan (getD (clocks n s .stretch .samples) j nan)))
 samples-numbers s n y e j = go (is163 (s .chip .board)) refl
   where
-    go : (t : Bool) → is163 (s .chip .board) ≡ t → j < length (clocks n s .stretch .samples) → T
-        (not (isNan (getD (clocks n s .stretch .samples) j nan)))
+    go : (t : Bool) → is163 (s .chip .board) ≡ t → j < length (clocks n s .stretch .samples)
+        → T (not (isNan (getD (clocks n s .stretch .samples) j nan)))
     go true b h =
         rw (sounds-samples n s b)
         (samples-number n (s .chip .audio) (y .audio) (state-in s y e .chip .audio) j (rw (sounds-samples n s b) at h))

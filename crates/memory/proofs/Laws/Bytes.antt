@@ -25,6 +25,7 @@ use Rattle.memory.specs.Page.{pick, unmapped, offsetOf, writableOf}
 entry-page : (n : ℕ) (p : Page) → EntryIn n p → offsetOf p + 1024 ≤ 1024 * n
 entry-page n p e = omega arith
 
+-- so does that of every entry of the tables
 pub prg-page : (m : Memory) (arena : List ℕ) → Backed m arena → (i : ℕ) → i < 64
     → offsetOf (getD (m .«prg_pages») i unmapped) + 1024 ≤ length arena
 unfolding arenaLen
@@ -36,9 +37,10 @@ unfolding arenaLen
 chr-page m arena b i h = rw (b .long) (entry-page (arenaPages (m .layout)) _ (b .ranged .chr i h))
 
 -- an offset that wraps in a region stays in it
-pub wrapped-in : (start len offset n : ℕ) → (len ≡ 0 → ⊥) → start + len ≤ n → start + offset % len < n
+wrapped-in : (start len offset n : ℕ) → (len ≡ 0 → ⊥) → start + len ≤ n → start + offset % len < n
 wrapped-in start len offset n ne h = let p : 0 < len = omega (arith, ne) in omega (arith, mod-lt offset p)
 
+-- the regions of a memory lie in its arena
 pub region-backed : (m : Memory) (arena : List ℕ) → Backed m arena → (s : Src)
     → regionIn m s .start + regionIn m s .len ≤ length arena
 region-backed m arena b s = rw (b .long) (region-in (m .layout) (m .«battery_ext_len») s (b .ranged .sized .used))
@@ -65,8 +67,8 @@ pub store-same : (arena : List ℕ) (i v : ℕ) → i < length arena → fetch (
 store-same arena i v h = getD-set-same arena i v 0 h
 
 -- a write through a page in the arena stores into that page
-pub stored-page : (n : ℕ) (p : Page) (addr i : ℕ) → EntryIn n p → storedAt p addr ≡ some i → (i / 1024 ≡ offsetOf p / 1024) ×
-    (i < 1024 * n)
+pub stored-page : (n : ℕ) (p : Page) (addr i : ℕ) → EntryIn n p → storedAt p addr ≡ some i
+    → (i / 1024 ≡ offsetOf p / 1024) × (i < 1024 * n)
 unfolding storedAt
 stored-page n p addr i e = go (writableOf p)
   where
@@ -79,18 +81,14 @@ pub wrapped-region : (r : Region) (offset i : ℕ) → wrappedAt r offset ≡ so
 unfolding wrappedAt
 wrapped-region r offset i = by (ℕ-discrete (r .len) 0)
   where
-    by : Dec (r .len ≡ 0) → pick (eqb (r .len) 0) none (some (r .start + offset % r .len)) ≡ some i → (r .start ≤ i) ×
-        (i < r .start + r .len)
+    by : Dec (r .len ≡ 0) → pick (eqb (r .len) 0) none (some (r .start + offset % r .len)) ≡ some i
+        → (r .start ≤ i) × (i < r .start + r .len)
     by (yes e) s = let z : _≡_ {A = ℕ} 0 1 = (let t : Path (Option ℕ) none (some i) = rw (eq-eqb (r .len) 0 e) at s in cc) in absurd
         (omega arith)
     by (no ne) s =
         let t : Path (Option ℕ) (some (r .start + offset % r .len)) (some i) = rw (ne-eqb (r .len) 0 ne) at s in
         let at : r .start + offset % r .len ≡ i = cc in
         (omega arith, omega (arith, wrapped-in (r .start) (r .len) offset (r .start + r .len) ne (omega arith)))
-
--- the memory stays backed by the arena after any store
-pub store-backed : (m : Memory) (arena : List ℕ) (at : Option ℕ) (v : ℕ) → Backed m arena → Backed m (store arena at v)
-store-backed m arena at v b = record { ranged = b .ranged; long = store-length arena at v ∙ b .long }
 
 -- ---- bytes laid over the arena
 

@@ -33,12 +33,12 @@ changed-lt (a ∷ old) [] = pow-pos (suc (length old))
 changed-lt (a ∷ old) (b ∷ new) = rw pow-suc (omega (arith, changed-lt old new, differ-le a b))
 
 -- past the end of both tables
-pub changed-none : (old new : List Page) (n : ℕ) → length old ≤ n → 0 ≡ changed (drop n old) (drop n new)
+changed-none : (old new : List Page) (n : ℕ) → length old ≤ n → 0 ≡ changed (drop n old) (drop n new)
 unfolding changed
 changed-none old new n h = rw (drop-of-length-le old h)
 
 -- one more entry at the front of what is left
-pub changed-step : (old new : List Page) (i : ℕ) → 0 < i → i ≤ length old → i ≤ length new
+changed-step : (old new : List Page) (i : ℕ) → 0 < i → i ≤ length old → i ≤ length new
     → changed (drop i old) (drop i new) * 2 + differ (getD old (i - 1) unmapped) (getD new (i - 1) unmapped)
     ≡ changed (drop (i - 1) old) (drop (i - 1) new)
 unfolding changed
@@ -46,9 +46,39 @@ changed-step old new zero z h k = absurd (omega arith)
 changed-step old new (suc i) z h k = rw (sub-one, drop-cons old i unmapped h, drop-cons new i unmapped k)
 
 -- the mask of what is left, in as many bits as entries are left
-pub changed-below : (old new : List Page) (i k : ℕ) → length old ≤ i + k → changed (drop i old) (drop i new) < 2 ^ k
+changed-below : (old new : List Page) (i k : ℕ) → length old ≤ i + k → changed (drop i old) (drop i new) < 2 ^ k
 changed-below old new i k h =
     lt-of-lt-of-le (changed-lt (drop i old) (drop i new)) (pow-mono (rw (length-drop i old) (omega arith)))
+
+-- what such a loop has made over two tables of k entries when it has come down to entry i: the mask of the entries from i on
+pub record MaskFrom (k : ℕ) (old new : List Page) (i mask : ℕ) : Type 0 where
+  pub within : i ≤ k
+  pub oldLength : length old ≡ k
+  pub newLength : length new ≡ k
+  pub made : mask ≡ changed (drop i old) (drop i new)
+
+pub mask-none : {k : ℕ} {old new : List Page} → length old ≡ k → length new ≡ k → MaskFrom k old new k 0
+mask-none {k} {old} {new} p q =
+    record { within = omega arith; oldLength = p; newLength = q; made = changed-none old new k (omega arith) }
+
+-- the next bit fits into k bits
+pub mask-room : (k : ℕ) {old new : List Page} {i mask : ℕ} → MaskFrom k old new i mask → 0 < i → mask * 2 + 1 < 2 ^ k
+mask-room zero m some = absurd (omega arith)
+mask-room (suc k) {old} {new} {i} m some =
+    rw (pow-suc, m .made) (omega (arith, changed-below old new i k (omega arith)))
+
+pub mask-next : {k : ℕ} {old new : List Page} {i mask : ℕ} → MaskFrom k old new i mask → 0 < i
+    → MaskFrom k old new (i - 1) (mask * 2 + differ (getD old (i - 1) unmapped) (getD new (i - 1) unmapped))
+mask-next {k} {old} {new} {i} m some =
+    record {
+      within = omega arith;
+      oldLength = m .oldLength;
+      newLength = m .newLength;
+      made = rw (m .made) (changed-step old new i some (omega arith) (omega arith));
+    }
+
+pub mask-whole : {k : ℕ} {old new : List Page} {i mask : ℕ} → MaskFrom k old new i mask → i ≡ 0 → mask ≡ changed old new
+mask-whole m end = rw end at (m .made)
 
 -- ---- the machine's counts of a mask
 
@@ -82,6 +112,10 @@ lowest-changed (a ∷ old) (b ∷ new) =
     go : (t : Bool) → under (pick t 0 1) (lowestChanged old new) ≡ pick t (suc (lowestChanged old new)) 0
     go true = refl
     go false = refl
+
+-- the same of a table whose length is known
+pub lowest-changed-of : (n : ℕ) (old new : List Page) → length old ≡ n → trailingZeros n (changed old new) ≡ lowestChanged old new
+lowest-changed-of n old new e = rw e at (lowest-changed old new)
 
 -- ---- what mask, count and lowest say of two tables of one length
 
@@ -130,8 +164,8 @@ lowest-differs (a ∷ old) (b ∷ new) e h = go (λ q. lowest-differs old new (o
     go : (lowestChanged old new < length old
         → getD old (lowestChanged old new) unmapped .0 ≡ getD new (lowestChanged old new) unmapped .0 → ⊥)
         → (t : Bool) → same a b ≡ t → pick t (suc (lowestChanged old new)) 0 < suc (length old)
-        → getD (a ∷ old) (pick t (suc (lowestChanged old new)) 0) unmapped .0 ≡ getD (b ∷ new)
-        (pick t (suc (lowestChanged old new)) 0) unmapped .0 → ⊥
+        → getD (a ∷ old) (pick t (suc (lowestChanged old new)) 0) unmapped .0
+        ≡ getD (b ∷ new) (pick t (suc (lowestChanged old new)) 0) unmapped .0 → ⊥
     go rest true s h = rest (omega arith)
     go rest false s h = eqb-false (a .0) (b .0) s
 

@@ -2,7 +2,7 @@
 use Prim.Native.Nat.{ℕ, _+_, _*_, _≤_}
 use mathlib.Core.Path.{_≡_, refl}
 use mathlib.Core.Bool.{Bool, true, false, _&&_}
-use borrow.Author.Tests.{leb-true, le-leb, eq-eqb, ne-eqb}
+use borrow.Author.Tests.{leb-true, eq-eqb, ne-eqb}
 use native.Mathlib.Decide.{ℕ-discrete}
 use native.Mathlib.Omega.{arith}
 use Rattle.memory.specs.declared.layout.Layout.{Layout}
@@ -37,6 +37,7 @@ region-ends l s = go (l .«chr_writable») s
     go false Chr = omega arith
     go false CiRam = omega arith
 
+-- the largest arena: every size at its limit
 pub pages-le : (l : Layout) → GoodLayout l → arenaPages l ≤ 838
 pages-le l g = omega (arith, arena-pages l)
 
@@ -59,18 +60,20 @@ region-in l used BatteryExt h = omega (arith, region-ends l BatteryExt)
 region-in l used Chr h = omega (arith, region-ends l Chr)
 region-in l used CiRam h = omega (arith, region-ends l CiRam)
 
+-- and before the end of the largest arena, 838 pages
 pub region-le : (l : Layout) (used : ℕ) (s : Src) → GoodLayout l → used ≤ 1024 * l .«battery_ext»
     → regionOf l used s .start + regionOf l used s .len ≤ 858112
 unfolding arenaLen
 region-le l used s g h = omega (arith, region-in l used s h, pages-le l g)
 
--- ---- the limits, both ways
+-- ---- the limits
 
-pub and-true : (a b : Bool) → a && b ≡ true → (a ≡ true) × (b ≡ true)
+and-true : (a b : Bool) → a && b ≡ true → (a ≡ true) × (b ≡ true)
 and-true true b e = (refl, e)
 and-true false b e = let z : _≡_ {A = ℕ} 0 1 = cc in absurd (omega arith)
 
-pub within-facts : (s : MemoryLayout) → withinLimits s ≡ true → WithinLimits s
+-- the test passed: each size is within its limit
+within-facts : (s : MemoryLayout) → withinLimits s ≡ true → WithinLimits s
 unfolding withinLimits
 within-facts s e =
     let d = and-true _ _ e in
@@ -85,11 +88,6 @@ within-facts s e =
       ciram = leb-true _ _ (d .1);
     }
 
-pub facts-within : (s : MemoryLayout) → WithinLimits s → withinLimits s ≡ true
-unfolding withinLimits
-facts-within s f =
-    rw (le-leb _ _ (f .prgRom), le-leb _ _ (f .prgRam), le-leb _ _ (f .battery), le-leb _ _ (f .chr), le-leb _ _ (f .ciram))
-
 -- rounding keeps the limits, and no CIRAM becomes two pages
 ciram-pages : (bytes : ℕ) → bytes ≤ 4096 → (1 ≤ pagesFor (ciramBytes bytes)) × (pagesFor (ciramBytes bytes) ≤ 4)
 ciram-pages bytes h = by (ℕ-discrete bytes 0)
@@ -98,6 +96,7 @@ ciram-pages bytes h = by (ℕ-discrete bytes 0)
     by (yes e) = rw (eq-eqb bytes 0 e) (omega arith, omega arith)
     by (no ne) = rw (ne-eqb bytes 0 ne) (let p : 1 ≤ bytes = omega (arith, ne) in omega arith, omega arith)
 
+-- sizes within the limits give page counts within them
 pub layout-good : (s : MemoryLayout) → withinLimits s ≡ true → GoodLayout (layoutOf s)
 unfolding layoutOf
 layout-good s e =
@@ -111,7 +110,7 @@ pub battery-behind : (l : Layout) (used : ℕ) → regionOf l used BatteryExt .s
 unfolding regionOf firstPage pagesBefore arenaOrder
 battery-behind l used = go (l .«chr_writable»)
   where
-    go : (ram : Bool) → 1024 * (1 + pagesBefore l BatteryExt (arenaOrder ram)) ≡ 1024 *
-        (1 + pagesBefore l PrgRam (arenaOrder ram)) + 1024 * l .«prg_ram»
+    go : (ram : Bool) → 1024 * (1 + pagesBefore l BatteryExt (arenaOrder ram))
+        ≡ 1024 * (1 + pagesBefore l PrgRam (arenaOrder ram)) + 1024 * l .«prg_ram»
     go true = omega arith
     go false = omega arith

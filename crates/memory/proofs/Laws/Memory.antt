@@ -10,7 +10,7 @@ use native.Mathlib.Omega.{arith}
 use borrow.Author.Tests.{eq-eqb, ne-eqb}
 use lib.Arith.{mod-mul}
 use lib.IntN.{ℤ}
-use lib.ListN.{length, length-set, getD, set, replicate}
+use lib.ListN.{length, getD, set, replicate}
 use lib.Seq.{getD-set-same, getD-set-other, set-out}
 use Rattle.memory.specs.declared.Memory.{Memory}
 use Rattle.memory.specs.declared.layout.Layout.{Layout}
@@ -22,13 +22,14 @@ use Rattle.memory.specs.declared.mirroring.Mirroring.{Mirroring}
 use Rattle.memory.specs.declared.mirroring.Mirroring.the-variants.{Horizontal}
 use Rattle.memory.specs.declared.page.Page.{Page}
 use Rattle.memory.specs.Layout.{GoodLayout, withinLimits, layoutOf, firstPage, arenaPages, pagesIn, regionLen, regionOf}
-use Rattle.memory.specs.Memory.{EntryIn, TableIn, Ranged}
+use Rattle.memory.specs.Memory.{EntryIn, TableIn, Ranged, regionIn, withPrgPages, withChrPages}
 use Rattle.memory.specs.Page.{unmapped, pageOf, offsetOf}
 use Rattle.memory.specs.Mirroring.{ciramBanks, nametablePage, mirrorPages, setMirroring}
 use Rattle.memory.specs.New.{unmappedMemory, newMemory}
 use Rattle.memory.specs.Windows.{withFlag, banksOf, modulo, windowBase, regionPage, eachPage, showPages, mapPages, unmapPages, setWritable, mapPrg, mapChr, unmapPrg, setPrgWritable}
 use Rattle.memory.proofs.Laws.Layout.{region-ends, pages-le, layout-good}
 use Rattle.memory.proofs.Laws.Page.{offset-page, bit-page}
+use Rattle.memory.proofs.Laws.Windows.{length-each}
 
 -- ---- entries
 
@@ -47,11 +48,6 @@ flag-in n w p e =
     record { pageStart = rw o (e .pageStart); inside = rw o (e .inside); clear = bit-page (offsetOf p) w }
 
 -- ---- tables
-
-pub length-each : (k : ℕ) (f : ℕ → Page → Page) (slot n : ℕ) (t : List Page) → length (eachPage k f slot n t) ≡ length t
-unfolding eachPage
-length-each k f slot zero t = refl
-length-each k f slot (suc n) t = simp (length-set, length-each k f slot n t)
 
 -- an entry outside the window stays
 pub each-other : (k : ℕ) (f : ℕ → Page → Page) (slot n : ℕ) (t : List Page) (j : ℕ)
@@ -90,8 +86,8 @@ pub record Paged (n : ℕ) (r : Region) : Type 0 where
   pub within : x + y ≤ n
 
 -- each region that the board maps is as long as its pages: `refl` there
-pub region-paged : (l : Layout) (used : ℕ) (s : Src) → regionLen l used s ≡ 1024 * pagesIn l s → Paged (arenaPages l)
-    (regionOf l used s)
+pub region-paged : (l : Layout) (used : ℕ) (s : Src) → regionLen l used s ≡ 1024 * pagesIn l s
+    → Paged (arenaPages l) (regionOf l used s)
 unfolding regionOf
 region-paged l used s e = record { x = firstPage l s; y = pagesIn l s; start = refl; len = e; within = region-ends l s }
 
@@ -119,10 +115,11 @@ region-page-in n r z some small p = by (eq-zero-or-pos (p .y))
 
 -- ---- windows of whole pages and the nametables
 
-module _ (n k : ℕ) (r : Region) (some : 0 < n) (small : n ≤ 2 ^ 20) (p : Paged n r) (entries : 0 < k) where
-  pub map-in : (s : ℕ) (b : ℤ) (slot : ℕ) (t : List Page) → s % 1024 ≡ 0 → TableIn n k t → TableIn n k (mapPages k r s b slot t)
+module _ (n : ℕ) (r : Region) (some : 0 < n) (small : n ≤ 2 ^ 20) (p : Paged n r) where
+  map-in : (k : ℕ) → 0 < k → (s : ℕ) (b : ℤ) (slot : ℕ) (t : List Page) → s % 1024 ≡ 0 → TableIn n k t
+      → TableIn n k (mapPages k r s b slot t)
   unfolding mapPages showPages windowBase
-  map-in s b slot t whole = each-in n k _ entries (λ i old e. go i) slot (s / 1024) t
+  map-in k entries s b slot t whole = each-in n k _ entries (λ i old e. go i) slot (s / 1024) t
     where
       go : (i : ℕ) → EntryIn n (regionPage r (windowBase (r .len) s b + 1024 * i))
       go i =
@@ -132,7 +129,7 @@ module _ (n k : ℕ) (r : Region) (some : 0 < n) (small : n ≤ 2 ^ 20) (p : Pag
           ap (λ (x : ℕ). bank * x + 1024 * i) pages ∙ omega (arith, mul-assoc bank (s / 1024) 1024) in
           rw same (region-page-in n r (bank * (s / 1024) + i) some small p)
 
-  pub mirror-in : (banks : List ℕ) (t : List Page) → 0 < p .y → TableIn n 16 t → TableIn n 16 (mirrorPages banks r t)
+  mirror-in : (banks : List ℕ) (t : List Page) → 0 < p .y → TableIn n 16 t → TableIn n 16 (mirrorPages banks r t)
   unfolding mirrorPages nametablePage
   mirror-in banks t h = each-in n 16 _ (omega arith) (λ i old e. go (getD banks (i % 4) 0)) 8 8 t
     where
@@ -152,66 +149,47 @@ arena-small : (l : Layout) → GoodLayout l → arenaPages l ≤ 2 ^ 20
 arena-small l g = omega (arith, pages-le l g)
 
 module _ (m : Memory) (q : Ranged m) where
+  -- the memory with another table of entries in the arena
+  with-prg : (t : List Page) → TableIn (arenaPages (m .layout)) 64 t → Ranged (withPrgPages m t)
+  with-prg t h = record { sized = record { layout = q .sized .layout; used = q .sized .used }; prg = h; chr = q .chr }
+
+  with-chr : (t : List Page) → TableIn (arenaPages (m .layout)) 16 t → Ranged (withChrPages m t)
+  with-chr t h = record { sized = record { layout = q .sized .layout; used = q .sized .used }; prg = q .prg; chr = h }
+
+  -- a window of either table, onto a region of whole pages
+  window-in : (k : ℕ) → 0 < k → (addr s : ℕ) (b : ℤ) (src : Src) (t : List Page) → s % 1024 ≡ 0
+      → regionLen (m .layout) (m .«battery_ext_len») src ≡ 1024 * pagesIn (m .layout) src → TableIn (arenaPages (m .layout)) k t
+      → TableIn (arenaPages (m .layout)) k (mapPages k (regionIn m src) s b (addr / 1024) t)
+  window-in k entries addr s b src t whole e =
+      map-in (arenaPages (m .layout)) _ (arena-some (m .layout)) (arena-small (m .layout) (q .sized .layout))
+      (region-paged (m .layout) (m .«battery_ext_len») src e) k entries s b (addr / 1024) t whole
+
   pub ranged-map-prg : (addr s : ℕ) (b : ℤ) (src : Src) → s % 1024 ≡ 0
       → regionLen (m .layout) (m .«battery_ext_len») src ≡ 1024 * pagesIn (m .layout) src → Ranged (mapPrg m addr s b src)
   unfolding mapPrg
-  ranged-map-prg addr s b src whole e =
-      record {
-        sized = record { layout = q .sized .layout; used = q .sized .used };
-        prg =
-            map-in (arenaPages (m .layout)) 64 _ (arena-some (m .layout)) (arena-small (m .layout) (q .sized .layout))
-            (region-paged (m .layout) (m .«battery_ext_len») src e) (omega arith) s b (addr / 1024) (m .«prg_pages») whole (q .prg);
-        chr = q .chr;
-      }
+  ranged-map-prg addr s b src whole e = with-prg _ (window-in 64 (omega arith) addr s b src (m .«prg_pages») whole e (q .prg))
 
   pub ranged-map-chr : (addr s : ℕ) (b : ℤ) (src : Src) → s % 1024 ≡ 0
       → regionLen (m .layout) (m .«battery_ext_len») src ≡ 1024 * pagesIn (m .layout) src → Ranged (mapChr m addr s b src)
   unfolding mapChr
-  ranged-map-chr addr s b src whole e =
-      record {
-        sized = record { layout = q .sized .layout; used = q .sized .used };
-        prg = q .prg;
-        chr =
-            map-in (arenaPages (m .layout)) 16 _ (arena-some (m .layout)) (arena-small (m .layout) (q .sized .layout))
-            (region-paged (m .layout) (m .«battery_ext_len») src e) (omega arith) s b (addr / 1024) (m .«chr_pages») whole (q .chr);
-      }
+  ranged-map-chr addr s b src whole e = with-chr _ (window-in 16 (omega arith) addr s b src (m .«chr_pages») whole e (q .chr))
 
   pub ranged-unmap-prg : (addr s : ℕ) → Ranged (unmapPrg m addr s)
   unfolding unmapPrg unmapPages
   ranged-unmap-prg addr s =
-      record {
-        sized = record { layout = q .sized .layout; used = q .sized .used };
-        prg =
-            each-in (arenaPages (m .layout)) 64 _ (omega arith) (λ i old e. unmapped-in _ (arena-some (m .layout))) (addr / 1024)
-            (s / 1024)
-            (m .«prg_pages») (q .prg);
-        chr = q .chr;
-      }
+      with-prg _ (each-in _ 64 _ (omega arith) (λ i old e. unmapped-in _ (arena-some (m .layout))) (addr / 1024) (s / 1024) _ (q .prg))
 
   pub ranged-set-writable : (addr s : ℕ) (w : Bool) → Ranged (setPrgWritable m addr s w)
   unfolding setPrgWritable setWritable
   ranged-set-writable addr s w =
-      record {
-        sized = record { layout = q .sized .layout; used = q .sized .used };
-        prg =
-            each-in (arenaPages (m .layout)) 64 _ (omega arith) (λ i old e. flag-in _ w old e) (addr / 1024) (s / 1024)
-            (m .«prg_pages»)
-            (q .prg);
-        chr = q .chr;
-      }
+      with-prg _ (each-in _ 64 _ (omega arith) (λ i old e. flag-in _ w old e) (addr / 1024) (s / 1024) _ (q .prg))
 
   pub ranged-mirroring : (k : Mirroring) → Ranged (setMirroring m k)
   unfolding setMirroring region-paged
   ranged-mirroring k =
-      record {
-        sized = record { layout = q .sized .layout; used = q .sized .used };
-        prg = q .prg;
-        chr =
-            mirror-in (arenaPages (m .layout)) 16 _ (arena-some (m .layout)) (arena-small (m .layout) (q .sized .layout))
-            (region-paged (m .layout) (m .«battery_ext_len») CiRam refl) (omega arith) (ciramBanks k) (m .«chr_pages»)
-            (q .sized .layout .someCiram)
-            (q .chr);
-      }
+      with-chr _
+      (mirror-in (arenaPages (m .layout)) _ (arena-some (m .layout)) (arena-small (m .layout) (q .sized .layout))
+      (region-paged (m .layout) (m .«battery_ext_len») CiRam refl) (ciramBanks k) _ (q .sized .layout .someCiram) (q .chr))
 
 -- ---- the new memory
 

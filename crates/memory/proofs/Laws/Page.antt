@@ -1,4 +1,4 @@
--- Laws of page entries and of bits. Assumes nothing.
+-- A mask tests a bit, and an entry gives back the offset that it was made of. Assumes nothing.
 use Prim.Native.Nat.{ℕ, zero, suc, _+_, _-_, _*_, _/_, _%_, _^_, _<_}
 use mathlib.Core.Path.{_≡_}
 use mathlib.Core.Bool.{Bool, true, false, not}
@@ -9,7 +9,7 @@ use borrow.Author.Tests.{ne-eqb}
 use lib.Dec.{eqb}
 use lib.Bits.{bitAnd, and-high}
 use lib.Pow.{pow-pos}
-use Rattle.memory.specs.Page.{bit, pageOf, offsetOf, writableOf}
+use Rattle.memory.specs.Page.{bit, pageOf, offsetOf}
 
 -- a test of one bit by a mask
 pub and-bit : (k n : ℕ) → not (eqb (bitAnd n (2 ^ k)) 0) ≡ bit k n
@@ -25,7 +25,7 @@ and-bit k n = rw (masked) (go (n / 2 ^ k % 2) (2 ^ k) (mod-lt (n / 2 ^ k) (omega
     go (suc zero) p h q = rw (ne-eqb (1 * p) 0 (λ e. absurd (omega arith)))
     go (suc (suc d)) p h q = absurd (omega arith)
 
--- what an entry was made of comes back
+-- the offset that an entry was made of comes back
 pub offset-page : (o : ℕ) (w : Bool) → o < 2 ^ 30 → offsetOf (pageOf o w) ≡ o
 offset-page o true h = omega arith
 offset-page o false h = omega arith
@@ -34,7 +34,3 @@ offset-page o false h = omega arith
 pub bit-page : (o : ℕ) (w : Bool) → bit 30 (pageOf o w .0) ≡ false
 bit-page o true = let e : (2 ^ 31 + o % 2 ^ 30) / 2 ^ 30 % 2 ≡ 0 = omega arith in rw e
 bit-page o false = let e : (0 + o % 2 ^ 30) / 2 ^ 30 % 2 ≡ 0 = omega arith in rw e
-
-pub writable-page : (o : ℕ) (w : Bool) → writableOf (pageOf o w) ≡ w
-writable-page o true = let e : (2 ^ 31 + o % 2 ^ 30) / 2 ^ 31 % 2 ≡ 1 = omega arith in rw e
-writable-page o false = let e : (0 + o % 2 ^ 30) / 2 ^ 31 % 2 ≡ 0 = omega arith in rw e

@@ -1,14 +1,48 @@
--- Laws of banks, windows and tables. Assumes nothing.
-use Prim.Native.Nat.{ℕ, suc, _+_, _-_, _*_, _/_, _%_, _≤_, _<_}
+-- What a loop over a window has made of a table so far, how a signed number counts banks, and that a bank begins inside its region. Assumes nothing.
+use Prim.Native.Nat.{ℕ, zero, suc, _+_, _-_, _*_, _/_, _%_, _≤_, _<_}
 use mathlib.Core.Path.{_≡_, refl, ap}
 use mathlib.Core.Bool.{true, false}
+use mathlib.Core.List.{List}
 use native.Mathlib.Omega.{arith}
+use native.Mathlib.Numerals.{add-one}
 use native.Mathlib.Nat.{suc-mul, div-add-mod', mod-lt, le-trans, mul-le-mul-right, div-mul-le-self}
 use borrow.Author.Tests.{ltb-true, le-ltb}
 use lib.Dec.{T}
 use lib.IntN.{ℤ, pos, negsuc, natAbs, _-ℤ_}
+use lib.ListN.{length, length-set, getD, set}
 use lib.Signed.{ltZ, mag, nonNeg}
-use Rattle.memory.specs.Windows.{banksOf, modulo, windowBase}
+use Rattle.memory.specs.declared.page.Page.{Page}
+use Rattle.memory.specs.Page.{unmapped}
+use Rattle.memory.specs.Windows.{banksOf, modulo, windowBase, eachPage}
+
+-- ---- tables
+
+pub length-each : (k : ℕ) (f : ℕ → Page → Page) (slot n : ℕ) (t : List Page) → length (eachPage k f slot n t) ≡ length t
+unfolding eachPage
+length-each k f slot zero t = refl
+length-each k f slot (suc n) t = simp (length-set, length-each k f slot n t)
+
+-- what a loop over `count` entries of a table of k has made before turn i: the entries of the turns so far
+pub record Turned (k : ℕ) (f : ℕ → Page → Page) (slot count : ℕ) (start : List Page) (i : ℕ) (pages : List Page) : Type 0 where
+  pub within : i ≤ count
+  pub long : length pages ≡ k
+  pub made : pages ≡ eachPage k f slot i start
+
+pub turned-none : {k : ℕ} {f : ℕ → Page → Page} {slot count : ℕ} {start : List Page} → length start ≡ k
+    → Turned k f slot count start 0 start
+unfolding eachPage
+turned-none e = record { within = omega arith; long = e; made = refl }
+
+pub turned-next : {k : ℕ} {f : ℕ → Page → Page} {slot count : ℕ} {start : List Page} {i : ℕ} {pages : List Page}
+    → Turned k f slot count start i pages → i < count
+    → Turned k f slot count start (i + 1) (set pages ((slot + i) % k) (f i (getD pages ((slot + i) % k) unmapped)))
+unfolding eachPage
+turned-next t more =
+    record { within = omega arith; long = simp (length-set, t .long); made = rw (add-one, t .made) }
+
+pub turned-all : {k : ℕ} {f : ℕ → Page → Page} {slot count : ℕ} {start : List Page} {i : ℕ} {pages : List Page}
+    → Turned k f slot count start i pages → count ≤ i → (pages ≡ eachPage k f slot count start) × (length pages ≡ k)
+turned-all {count = count} {i = i} t end = let e : i ≡ count = omega arith in (rw e at (t .made), t .long)
 
 -- ---- banks
 

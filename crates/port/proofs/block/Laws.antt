@@ -33,10 +33,7 @@ midway-more n first i out p h m = go (m .left) (m .counted) (m .bytes) (m .port)
   where
     go : (left : ℕ) → i + left ≡ n → take i out ++ reads left p ≡ reads n first → afterReads left p ≡ afterReads n first
         → Midway n first (i + 1) (set out i (byteOf p)) (afterRead p)
-    go zero c b q = absurd (none c)
-      where
-        none : i + 0 ≡ n → ⊥
-        none c = omega arith
+    go zero c b q = absurd (omega arith)
     go (suc left) c b q =
         record {
           left = left;
@@ -54,7 +51,4 @@ midway-end n first i out p h m = go (m .left) (m .counted) (m .bytes) (m .port)
     go : (left : ℕ) → i + left ≡ n → take i out ++ reads left p ≡ reads n first → afterReads left p ≡ afterReads n first
         → (out ≡ reads n first) × (p ≡ afterReads n first)
     go zero c b q = (sym (append-nil (take i out) ∙ take-all i out (omega (arith, m .«out-length»))) ∙ b, q)
-    go (suc left) c b q = absurd (none c)
-      where
-        none : i + suc left ≡ n → ⊥
-        none c = omega arith
+    go (suc left) c b q = absurd (omega arith)

@@ -1,8 +1,10 @@
 -- `arena_refusal_of` meets its contract.
-use mathlib.Core.Path.{sym, _∙_}
+use mathlib.Core.Path.{_≡_, sym, _∙_}
+use mathlib.Core.Bool.{cond, not}
 use borrow.Author.Tests.{eq-eqb, ne-eqb}
-use Rattle.refusals.specs.Refusals.{firstOf}
-use Rattle.refusals.proofs.Laws.{memory-good}
+use lib.Dec.{eqb}
+use Rattle.state.proofs.StateRange.{memory-good}
+use Rattle.refusals.specs.Refusals.{firstOf, arenaChecks}
 use Rattle.refusals.proofs.arena_refusal_of.Statement.{statement}
 use Rattle.refusals.proofs.arena_refusal_of.Tie as tie
 
@@ -10,17 +12,19 @@ arena-len-requires : tie.Need-arena-len-requires
 arena-len-requires c κs =
     memory-good _ (sym (c .before .before .before .pre) ∙ c .before .before .if1 .taken) .ranged .sized .layout
 
-returns : tie.Need-returns
+-- the state's check is passed, and the length's is left
+last : (c : tie.After-arena-len) → let a = c .before .before .before .before .args in
+    firstOf (arenaChecks (a .s) (a .len)) ≡ cond (not (eqb (a .len) (c .arena-len .result))) 7 0
 unfolding firstOf
-returns c =
-    let c1 = c .before in let c4 = c1 .before .before .before in let c5 = c4 .before in
-    rw (← c5 .pre, c4 .if1 .taken, ← c1 .arena-len .ensures .0, eq-eqb _ _ (c .if2 .taken))
+last c =
+    let c3 = c .before .before .before in let c4 = c3 .before in
+    rw (← c4 .pre, c3 .if1 .taken, ← c .arena-len .ensures .0)
+
+returns : tie.Need-returns
+returns c = rw (last (c .before), eq-eqb _ _ (c .if2 .taken))
 
 returns-2 : tie.Need-returns-2
-unfolding firstOf
-returns-2 c =
-    let c1 = c .before in let c4 = c1 .before .before .before in let c5 = c4 .before in
-    rw (← c5 .pre, c4 .if1 .taken, ← c1 .arena-len .ensures .0, ne-eqb _ _ (c .if2 .left))
+returns-2 c = rw (last (c .before), ne-eqb _ _ (c .if2 .left))
 
 returns-3 : tie.Need-returns-3
 unfolding firstOf

@@ -1,9 +1,11 @@
 -- `load_refusal` meets its contract, check by check.
-use mathlib.Core.Path.{sym, _∙_}
+use mathlib.Core.Path.{_≡_, sym, _∙_}
+use mathlib.Core.Bool.{cond, not}
 use borrow.Author.Needs.{needs}
 use borrow.Author.Tests.{eq-eqb, ne-eqb}
+use lib.Dec.{eqb}
 use Rattle.memory.proofs.Laws.Layout.{layout-good}
-use Rattle.refusals.specs.Refusals.{firstOf}
+use Rattle.refusals.specs.Refusals.{firstOf, loadChecks}
 use Rattle.refusals.proofs.load_refusal.Statement.{statement}
 use Rattle.refusals.proofs.load_refusal.Tie as tie
 
@@ -25,39 +27,29 @@ arena-len-requires c κs =
     let c3 = c .before .before .before in let c4 = c3 .before in
     rw (c .new .ensures) (layout-good _ (sym (c4 .within-limits .ensures) ∙ c3 .if2 .taken))
 
-returns-2 : tie.Need-returns-2
+-- the checks before the length's are passed
+last : (c : tie.After-arena-len) → let a = c .before .before .before .before .before .before .before .before .args in
+    firstOf (loadChecks (a .mapper) (a .sizes) (a .len)) ≡ cond (not (eqb (a .len) (c .arena-len .result))) 7 0
 unfolding firstOf
-returns-2 c =
+last c =
     let c1 = c .before in let c2 = c1 .before in let c3 = c2 .before in let c4 = c3 .before in let c5 = c4 .before in
-    let c6 = c5 .before in let c7 = c6 .before in let c8 = c7 .before in
+    let c6 = c5 .before in let c7 = c6 .before in
     rw (
-      ← c8 .mapper-ok .ensures,
-      c7 .if1 .taken,
-      ← c6 .within-limits .ensures,
-      c5 .if2 .taken,
-      ← c4 .lacks-reserve .ensures,
-      c3 .if3 .left,
-      ← c2 .new .ensures,
-      ← c1 .arena-len .ensures .0,
-      eq-eqb _ _ (c .if4 .taken),
+      ← c7 .mapper-ok .ensures,
+      c6 .if1 .taken,
+      ← c5 .within-limits .ensures,
+      c4 .if2 .taken,
+      ← c3 .lacks-reserve .ensures,
+      c2 .if3 .left,
+      ← c1 .new .ensures,
+      ← c .arena-len .ensures .0,
     )
 
+returns-2 : tie.Need-returns-2
+returns-2 c = rw (last (c .before), eq-eqb _ _ (c .if4 .taken))
+
 returns-3 : tie.Need-returns-3
-unfolding firstOf
-returns-3 c =
-    let c1 = c .before in let c2 = c1 .before in let c3 = c2 .before in let c4 = c3 .before in let c5 = c4 .before in
-    let c6 = c5 .before in let c7 = c6 .before in let c8 = c7 .before in
-    rw (
-      ← c8 .mapper-ok .ensures,
-      c7 .if1 .taken,
-      ← c6 .within-limits .ensures,
-      c5 .if2 .taken,
-      ← c4 .lacks-reserve .ensures,
-      c3 .if3 .left,
-      ← c2 .new .ensures,
-      ← c1 .arena-len .ensures .0,
-      ne-eqb _ _ (c .if4 .left),
-    )
+returns-3 c = rw (last (c .before), ne-eqb _ _ (c .if4 .left))
 
 returns-4 : tie.Need-returns-4
 unfolding firstOf

@@ -1,13 +1,10 @@
 -- `mapper_ok` meets its contract.
-use borrow.Author.Tests.{eq-eqb, ne-eqb}
+use mathlib.Core.Path.{refl}
 use Rattle.refusals.proofs.mapper_ok.Statement.{statement}
 use Rattle.refusals.proofs.mapper_ok.Tie as tie
 
 returns : tie.Need-returns
-returns c = rw (eq-eqb _ _ (c .if1 .taken))
-
-returns-2 : tie.Need-returns-2
-returns-2 c = rw (ne-eqb _ _ (c .if1 .left))
+returns c = refl
 
 pub mapper-ok-spec : {M : Type 1} → statement M
-mapper-ok-spec = tie.close (tie.spec returns returns-2)
+mapper-ok-spec = tie.close (tie.spec returns)

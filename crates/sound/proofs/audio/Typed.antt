@@ -9,11 +9,9 @@ use denote.Shadow.{shadow}
 use denote.Array.{each}
 use denote.Laws.{Is}
 use denote.Struct.Field.{u8-field}
-use denote.Struct.Laws as LL
 use Rattle.sound.specs.declared.audio.Audio.{Audio}
 use Rattle.sound.specs.Range.{Typed}
 use Rattle.sound.proofs.audio.Audio as Row
-use Rattle.sound.proofs.audio.Audio.Laws as RowLaws
 
 bytes-fit : (xs : List ℕ) (us : List Val) → shadow (each (u8-field .row .Denot) (u8-field .row .own) (map (λ v. v) xs) us) → (i : ℕ)
     → getD xs i 0 < 256

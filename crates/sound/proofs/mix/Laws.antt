@@ -10,10 +10,10 @@ use lib.Dec.{lit<, leb}
 use lib.ListN.{getD, set, length, drop}
 use lib.Seq.{drop-set-lt}
 use lib.Pow.{pow-pos, pow-mono, pow-add}
-use lib.Ieee.{Float, nan, binary32, div, mul, round, ofInt, ofBits}
+use lib.Ieee.{Float, nan, binary32, mul, round, ofInt, ofBits}
 use lib.Ieee.Exact.{HasValue, round-exact}
 use Rattle.sound.specs.Mix.{whole, sumFrom, sumOf, total, mixOf, resumOf}
-use Rattle.sound.proofs.Floats.{add-whole, sub-whole, div-whole, mul-back, minus-zero}
+use Rattle.sound.proofs.Floats.Whole.{add-whole, sub-whole, div-whole, mul-back, minus-zero}
 
 pub zero-bits : ofBits binary32 0 ≡ whole 0
 unfolding ofBits ofInt
@@ -33,16 +33,19 @@ drop-map zero ks = refl
 drop-map (suc n) [] = refl
 drop-map (suc n) (k ∷ ks) = drop-map n ks
 
+-- the sum of channels 7−c..=7 that are whole numbers
+sum-is : (ks : List ℕ) (c : ℕ) → total (drop (7 - c) ks) ≤ 16777216 → sumOf (map whole ks) c ≡ whole (total (drop (7 - c) ks))
+unfolding sumOf
+sum-is ks c h =
+    let t = total (drop (7 - c) ks) in
+    let z : 0 + t ≡ t = omega arith in
+    rw (zero-bits, drop-map (7 - c) ks) (sum-exact (drop (7 - c) ks) 0 (omega arith) ∙ ap whole z)
+
 -- `out` is one rounding of the exact quotient
 pub mix-rounds : (ks : List ℕ) (c : ℕ) → total (drop (7 - c) ks) ≤ 16777216 → c < 8
     → mixOf (map whole ks) c ≡ round binary32 false (total (drop (7 - c) ks)) (c + 1)
-unfolding mixOf sumOf
-mix-rounds ks c h l =
-    let t = total (drop (7 - c) ks) in
-    let z : 0 + t ≡ t = omega arith in
-    let e : sumFrom (whole 0) (map whole (drop (7 - c) ks)) ≡ whole t = sum-exact (drop (7 - c) ks) 0 (omega arith) ∙ ap whole z in
-    rw (zero-bits, drop-map (7 - c) ks)
-    (ap (λ (x : Float). div binary32 x (whole (c + 1))) e ∙ div-whole t (c + 1) (omega arith) h (omega arith))
+unfolding mixOf
+mix-rounds ks c h l = rw (sum-is ks c h) (div-whole (total (drop (7 - c) ks)) (c + 1) (omega arith) h (omega arith))
 
 -- a small whole number over 1, 2, 4 or 8 is a float
 power-exact : (size j : ℕ) → size ≤ 30600 → j ≤ 3 → HasValue (round binary32 false size (2 ^ j)) false size (2 ^ j)
@@ -66,8 +69,8 @@ mix-back ks c j h l p e =
     mul-back (mixOf (map whole ks) c) (total (drop (7 - c) ks)) (c + 1) (omega arith) (omega arith) (mix-exact ks c j h l p e)
 
 -- the Rust's sum starts at negative zero, which never shows
-pub sum-start : (k : ℕ) (ks : List ℕ) → k ≤ 16777216 → sumFrom (ofBits binary32 0x80000000) (map whole (k ∷ ks)) ≡ sumFrom
-    (ofBits binary32 0) (map whole (k ∷ ks))
+pub sum-start : (k : ℕ) (ks : List ℕ) → k ≤ 16777216
+    → sumFrom (ofBits binary32 0x80000000) (map whole (k ∷ ks)) ≡ sumFrom (ofBits binary32 0) (map whole (k ∷ ks))
 unfolding sumFrom ofBits
 sum-start k ks h = ap (λ (x : Float). sumFrom x (map whole ks)) (minus-zero k h)
 
@@ -79,47 +82,30 @@ set-map (x ∷ ks) zero n = refl
 set-map (x ∷ ks) (suc k) n = ap (λ (l : List Float). whole x ∷ l) (set-map ks k n)
 
 getD-map : (ks : List ℕ) (k : ℕ) → k < length ks → getD (map whole ks) k nan ≡ whole (getD ks k 0)
-getD-map [] k h = absurd (none k h)
-  where
-    none : (k : ℕ) → k < 0 → ⊥
-    none k h = omega arith
+getD-map [] k h = absurd (omega arith)
 getD-map (x ∷ ks) zero h = refl
 getD-map (x ∷ ks) (suc k) h = getD-map ks k (omega arith)
 
 -- what element k adds to the total of the elements from m on
 total-set : (ks : List ℕ) (m k n : ℕ) → m ≤ k → k < length ks → total (drop m (set ks k n)) + getD ks k 0 ≡ total (drop m ks) + n
 unfolding total
-total-set [] m k n l h = absurd (none k h)
-  where
-    none : (k : ℕ) → k < 0 → ⊥
-    none k h = omega arith
+total-set [] m k n l h = absurd (omega arith)
 total-set (x ∷ ks) zero zero n l h = omega arith
 total-set (x ∷ ks) zero (suc k) n l h = omega (arith, total-set ks 0 k n (omega arith) (omega arith))
-total-set (x ∷ ks) (suc m) zero n l h = absurd (none m l)
-  where
-    none : (m : ℕ) → suc m ≤ 0 → ⊥
-    none m l = omega arith
+total-set (x ∷ ks) (suc m) zero n l h = absurd (omega arith)
 total-set (x ∷ ks) (suc m) (suc k) n l h = total-set ks m k n (omega arith) (omega arith)
 
 total-part : (ks : List ℕ) (m k : ℕ) → m ≤ k → k < length ks → getD ks k 0 ≤ total (drop m ks)
 total-part ks m k l h = omega (arith, total-set ks m k 0 l h)
 
-sum-is : (ks : List ℕ) (c : ℕ) → total (drop (7 - c) ks) ≤ 16777216 → sumOf (map whole ks) c ≡ whole (total (drop (7 - c) ks))
-unfolding sumOf
-sum-is ks c h =
-    let t = total (drop (7 - c) ks) in
-    let z : 0 + t ≡ t = omega arith in
-    rw (zero-bits, drop-map (7 - c) ks) (sum-exact (drop (7 - c) ks) 0 (omega arith) ∙ ap whole z)
-
 -- taking the old output off the sum and putting the new one on gives the bits of the sum of the new outputs
 pub sum-again : (ks : List ℕ) (c k n : ℕ) → length ks ≡ 8 → c < 8 → k < 8 → total (drop (7 - c) ks) ≤ 30600 → n ≤ 3825
-    → sumOf (set (map whole ks) k (whole n)) c ≡ resumOf (sumOf (map whole ks) c) (getD (map whole ks) k nan) (whole n)
-    (leb 7 (k + c))
+    → sumOf (set (map whole ks) k (whole n)) c ≡ resumOf (sumOf (map whole ks) c) (getD (map whole ks) k nan) (whole n) (leb 7 (k + c))
 unfolding sumOf
 sum-again ks c k n e l h b s = go (leb 7 (k + c)) refl
   where
-    go : (u : Bool) → leb 7 (k + c) ≡ u → sumOf (set (map whole ks) k (whole n)) c ≡ resumOf (sumOf (map whole ks) c)
-        (getD (map whole ks) k nan) (whole n) u
+    go : (u : Bool) → leb 7 (k + c) ≡ u
+        → sumOf (set (map whole ks) k (whole n)) c ≡ resumOf (sumOf (map whole ks) c) (getD (map whole ks) k nan) (whole n) u
     go true u =
         let g : 7 - c ≤ k = omega (arith, leb-true 7 (k + c) u) in
         let o = getD ks k 0 in

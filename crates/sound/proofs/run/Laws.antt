@@ -51,8 +51,8 @@ pub clock-due : (a : Audio) → a .disabled ≡ false → a .«update_counter» 
 unfolding soundClock updated updateChannel
 clock-due a d e = rw (d, eq-eqb _ _ e)
 
-pub clock-quiet : (a : Audio) → a .disabled ≡ false → (a .«update_counter» + 1 ≡ 15 → ⊥) → soundClock a ≡ withCounter a
-    (a .«update_counter» + 1)
+pub clock-quiet : (a : Audio) → a .disabled ≡ false → (a .«update_counter» + 1 ≡ 15 → ⊥)
+    → soundClock a ≡ withCounter a (a .«update_counter» + 1)
 unfolding soundClock
 clock-quiet a d e = rw (d, ne-eqb _ _ e)
 
@@ -126,8 +126,8 @@ samples-on (suc n) a d h =
 -- ---- closed forms
 
 -- floor((u + n) / 15) samples, or 0 when disabled
-pub made-closed : (n : ℕ) (a : Audio) → a .«update_counter» ≤ 14 → length (samplesOf n a) ≡ cond (a .disabled) 0
-    ((a .«update_counter» + n) / 15)
+pub made-closed : (n : ℕ) (a : Audio) → a .«update_counter» ≤ 14
+    → length (samplesOf n a) ≡ cond (a .disabled) 0 ((a .«update_counter» + n) / 15)
 made-closed n a h = go (a .disabled) refl
   where
     go : (d : Bool) → a .disabled ≡ d → length (samplesOf n a) ≡ cond d 0 ((a .«update_counter» + n) / 15)
@@ -139,8 +139,7 @@ pub counter-closed : (n : ℕ) (a : Audio) → a .«update_counter» ≤ 14
     → soundRun n a .«update_counter» ≡ cond (a .disabled) (a .«update_counter») ((a .«update_counter» + n) % 15)
 counter-closed n a h = go (a .disabled) refl
   where
-    go : (d : Bool) → a .disabled ≡ d → soundRun n a .«update_counter» ≡ cond d (a .«update_counter»)
-        ((a .«update_counter» + n) % 15)
+    go : (d : Bool) → a .disabled ≡ d → soundRun n a .«update_counter» ≡ cond d (a .«update_counter») ((a .«update_counter» + n) % 15)
     go true e = ap (λ (x : Audio). x .«update_counter») (run-off n a e)
     go false e = ap (λ (x : Audio). x .«update_counter») (run-on n a e h)
 

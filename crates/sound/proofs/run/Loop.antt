@@ -13,7 +13,8 @@ use Rattle.sound.specs.Channel.{channelCount, baseAddr, nextPhase, level
 use Rattle.sound.specs.Mix.{whole, sumOf, meanOf, mixOf, outputOf, resumOf}
 use Rattle.sound.specs.Clock.{nextChannel, updateChannel, updated}
 use Rattle.sound.specs.Range.{InRange, Typed}
-use Rattle.sound.proofs.Range.{sizes-of, sizes-length, mixed-total, updated-typed, updated-range}
+use Rattle.sound.proofs.Range.Mix.{sizes-of, sizes-length, mixed-total}
+use Rattle.sound.proofs.Range.Clock.{updated-typed, updated-range}
 use Rattle.sound.proofs.mix.Laws.{sum-again}
 use Rattle.sound.proofs.run.Laws.{updates, outputs}
 
@@ -35,8 +36,8 @@ withParts a outs out phases k =
 -- the update by the parts that the code computes, each from those before it
 from-parts : (a : Audio) (base phase level c : ℕ) (sum out : Float) (next : ℕ)
     → base ≡ baseAddr (a .«current_channel») → phase ≡ nextPhase (a .ram) base (getD (a .«phase_ext») (a .«current_channel») 0)
-    → level ≡ levelAt (a .ram) base phase → c ≡ channelCount (a .ram) → sum ≡ sumOf
-    (set (a .«channel_out») (a .«current_channel») (whole level)) c
+    → level ≡ levelAt (a .ram) base phase → c ≡ channelCount (a .ram)
+    → sum ≡ sumOf (set (a .«channel_out») (a .«current_channel») (whole level)) c
     → out ≡ meanOf sum c → next ≡ nextChannel (a .«current_channel») c
     → withParts a (set (a .«channel_out») (a .«current_channel») (whole level)) out
     (set (a .«phase_ext») (a .«current_channel») phase) next ≡ updated a
@@ -44,8 +45,7 @@ unfolding updated updateChannel mixOf
 from-parts a base phase level c sum out next eb ep el ec es eo en = rw (en, eo, es, ec, el, ep, eb)
 
 -- the sum that is kept is that of the new outputs
-sum-kept : (a : Audio) (level c : ℕ) (sum now : Float) → Typed a → InRange a → level ≤ 3825 → c < 8 → sum ≡ sumOf
-    (a .«channel_out») c
+sum-kept : (a : Audio) (level c : ℕ) (sum now : Float) → Typed a → InRange a → level ≤ 3825 → c < 8 → sum ≡ sumOf (a .«channel_out») c
     → now ≡ resumOf sum (getD (a .«channel_out») (a .«current_channel») nan) (whole level) (leb 7 (a .«current_channel» + c))
     → now ≡ sumOf (set (a .«channel_out») (a .«current_channel») (whole level)) c
 sum-kept a level c sum now t r l h e n =
@@ -74,60 +74,55 @@ going-none s count a c sum t r k m =
     let e : count - 0 ≡ count = omega arith in
     record { within = omega arith; typed = t; range = r; channels = k; summed = m; same = refl; state = rw e; made = rw e; rest = refl }
 
-going-more : (s₀ : List Float) (count : ℕ) (a₀ : Audio) (c : ℕ) (s : List Float) (a : Audio) (sum : Float) (i : ℕ)
-    → Going s₀ count a₀ c s a sum i
-    → i < count → count ≤ length s₀ → (now : Float) → now ≡ sumOf (updated a .«channel_out») c
-    → Going s₀ count a₀ c (set s i (outputOf (updated a .out))) (updated a) now (i + 1)
-unfolding updates outputs updated updateChannel
-going-more s₀ count a₀ c s a sum i g h l now m =
-    let v = outputOf (updated a .out) in
-    let e : count - i ≡ suc (count - (i + 1)) = omega arith in
-    let w : i < length s = omega arith in
-    record {
-      within = omega arith;
-      typed = updated-typed a (g .typed);
-      range = updated-range a (g .typed) (g .range);
-      channels = g .channels;
-      summed = m;
-      same = length-set s i v ∙ g .same;
-      state = rw e at (g .state);
-      made = rw (add-one, take-suc-set s i v w, append-assoc) (rw (e, add-one) at (g .made));
-      rest = drop-set-lt (i + 1) s i v (omega arith) ∙ sym (drop-drop 1 i s) ∙ ap (drop 1) (g .rest) ∙ drop-drop 1 i s₀;
-    }
+module _ (s₀ : List Float) (count : ℕ) (a₀ : Audio) (c : ℕ) (s : List Float) (a : Audio) (sum : Float) (i : ℕ)
+    (g : Going s₀ count a₀ c s a sum i) where
+  module _ (h : i < count) (l : count ≤ length s₀) where
+    -- one update more
+    going-more : (now : Float) → now ≡ sumOf (updated a .«channel_out») c
+        → Going s₀ count a₀ c (set s i (outputOf (updated a .out))) (updated a) now (i + 1)
+    unfolding updates outputs updated updateChannel
+    going-more now m =
+        let v = outputOf (updated a .out) in
+        let e : count - i ≡ suc (count - (i + 1)) = omega arith in
+        let w : i < length s = omega arith in
+        record {
+          within = omega arith;
+          typed = updated-typed a (g .typed);
+          range = updated-range a (g .typed) (g .range);
+          channels = g .channels;
+          summed = m;
+          same = length-set s i v ∙ g .same;
+          state = rw e at (g .state);
+          made = rw (add-one, take-suc-set s i v w, append-assoc) (rw (e, add-one) at (g .made));
+          rest = drop-set-lt (i + 1) s i v (omega arith) ∙ sym (drop-drop 1 i s) ∙ ap (drop 1) (g .rest) ∙ drop-drop 1 i s₀;
+        }
 
-going-step : (s₀ : List Float) (count : ℕ) (a₀ : Audio) (c : ℕ) (s : List Float) (a : Audio) (sum : Float) (i : ℕ)
-    → Going s₀ count a₀ c s a sum i
-    → i < count → count ≤ length s₀ → (b : Audio) (now v : Float) → b ≡ updated a → now ≡ sumOf (b .«channel_out») c → v ≡ outputOf
-    (b .out)
-    → Going s₀ count a₀ c (set s i v) b now (i + 1)
-going-step s₀ count a₀ c s a sum i g h l b now v e m o = rw (o, e) (going-more s₀ count a₀ c s a sum i g h l now (rw e at m))
+    -- the same of a state, a sum and a sample that equal its own
+    going-step : (b : Audio) (now v : Float) → b ≡ updated a → now ≡ sumOf (b .«channel_out») c → v ≡ outputOf (b .out)
+        → Going s₀ count a₀ c (set s i v) b now (i + 1)
+    going-step b now v e m o = rw (o, e) (going-more now (rw e at m))
 
--- one update more, by what the code computes
-pub going-parts : (s₀ : List Float) (count : ℕ) (a₀ : Audio) (c : ℕ) (s : List Float) (a : Audio) (sum : Float) (i : ℕ)
-    → Going s₀ count a₀ c s a sum i
-    → i < count → count ≤ length s₀ → (base phase level : ℕ) (now out : Float) (next : ℕ) (v : Float)
-    → base ≡ baseAddr (a .«current_channel») → phase ≡ nextPhase (a .ram) base (getD (a .«phase_ext») (a .«current_channel») 0)
-    → (level ≡ levelAt (a .ram) base phase) × (level ≤ 3825)
-    → now ≡ resumOf sum (getD (a .«channel_out») (a .«current_channel») nan) (whole level) (leb 7 (a .«current_channel» + c))
-    → out ≡ meanOf now c → next ≡ nextChannel (a .«current_channel») c → v ≡ outputOf out
-    → Going s₀ count a₀ c (set s i v)
-    (withParts a (set (a .«channel_out») (a .«current_channel») (whole level)) out
-    (set (a .«phase_ext») (a .«current_channel») phase) next) now (i + 1)
-going-parts s₀ count a₀ c s a sum i g h l base phase level now out next v eb ep el en eo ex ev =
-    let m = sum-kept a level c sum now (g .typed) (g .range) (el .1) (omega (arith, g .channels)) (g .summed) en in
-    going-step s₀ count a₀ c s a sum i g h l _ now v
-    (from-parts a base phase level c now out next eb ep (el .0) (g .channels) m eo ex) m ev
+    -- the same by what the code computes
+    pub going-parts : (base phase level : ℕ) (now out : Float) (next : ℕ) (v : Float)
+        → base ≡ baseAddr (a .«current_channel») → phase ≡ nextPhase (a .ram) base (getD (a .«phase_ext») (a .«current_channel») 0)
+        → (level ≡ levelAt (a .ram) base phase) × (level ≤ 3825)
+        → now ≡ resumOf sum (getD (a .«channel_out») (a .«current_channel») nan) (whole level) (leb 7 (a .«current_channel» + c))
+        → out ≡ meanOf now c → next ≡ nextChannel (a .«current_channel») c → v ≡ outputOf out
+        → Going s₀ count a₀ c (set s i v)
+        (withParts a (set (a .«channel_out») (a .«current_channel») (whole level)) out
+        (set (a .«phase_ext») (a .«current_channel») phase) next) now (i + 1)
+    going-parts base phase level now out next v eb ep el en eo ex ev =
+        let m = sum-kept a level c sum now (g .typed) (g .range) (el .1) (omega (arith, g .channels)) (g .summed) en in
+        going-step _ now v (from-parts a base phase level c now out next eb ep (el .0) (g .channels) m eo ex) m ev
 
-pub going-end : (s₀ : List Float) (count : ℕ) (a₀ : Audio) (c : ℕ) (s : List Float) (a : Audio) (sum : Float) (i : ℕ)
-    → Going s₀ count a₀ c s a sum i → count ≤ i
-    → (a ≡ updates count a₀) × (s ≡ outputs count a₀ ++ drop count s₀)
-unfolding updates outputs
-going-end s₀ count a₀ c s a sum i g h =
-    let e : i ≡ count = omega arith in
-    let z : count - count ≡ 0 = omega arith in
-    let st : a ≡ updates count a₀ = rw (e, z) at (g .state) in
-    let md : take count s ++ [] ≡ outputs count a₀ = rw (e, z) at (g .made) in (
-      st,
-      sym (take-append-drop count s) ∙ ap (λ (t : List Float). t ++ drop count s) (sym (append-nil (take count s)) ∙ md)
-          ∙ ap (λ (t : List Float). outputs count a₀ ++ t) (rw e at (g .rest)),
-    )
+  pub going-end : count ≤ i → (a ≡ updates count a₀) × (s ≡ outputs count a₀ ++ drop count s₀)
+  unfolding updates outputs
+  going-end h =
+      let e : i ≡ count = omega arith in
+      let z : count - count ≡ 0 = omega arith in
+      let st : a ≡ updates count a₀ = rw (e, z) at (g .state) in
+      let md : take count s ++ [] ≡ outputs count a₀ = rw (e, z) at (g .made) in (
+        st,
+        sym (take-append-drop count s) ∙ ap (λ (t : List Float). t ++ drop count s) (sym (append-nil (take count s)) ∙ md)
+            ∙ ap (λ (t : List Float). outputs count a₀ ++ t) (rw e at (g .rest)),
+      )

@@ -5,7 +5,7 @@ use mathlib.Core.Bool.{false}
 use lib.ListN.{length}
 use Rattle.sound.specs.Range.{InRange}
 use Rattle.sound.specs.Run.{samplesOf}
-use Rattle.sound.proofs.Range.{other-range, fresh-range}
+use Rattle.sound.proofs.Range.Audio.{other-range, fresh-range}
 use Rattle.sound.proofs.run.Laws.{made-closed}
 use borrow.Author.Needs.{needs}
 use native.Mathlib.Omega.{arith}

@@ -17,8 +17,7 @@ pub digits-next : (base n : ℕ) (l : List ℕ) (i : ℕ) → i < length l
     → digitsAfter base n (drop i l)
     ≡ cond (leb base (digitOf (getD l i 0))) Nothing
     (cond (ltb (n * base + digitOf (getD l i 0)) 18446744073709551616)
-    (digitsAfter base (n * base + digitOf (getD l i 0)) (drop (i + 1) l))
-    Nothing)
+    (digitsAfter base (n * base + digitOf (getD l i 0)) (drop (i + 1) l)) Nothing)
 unfolding digitsAfter
 digits-next base n l i h = rw (drop-next l i h)
 

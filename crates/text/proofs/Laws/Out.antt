@@ -2,9 +2,15 @@
 use Prim.Native.Nat.{ℕ, _+_, _≤_, _<_}
 use mathlib.Core.Path.{_≡_, refl}
 use mathlib.Core.List.{List, [], _∷_, _++_}
-use lib.ListN.{length, getD, drop}
-use Rattle.text.specs.Out.{Put, putOne, putAll}
+use borrow.Author.Tests.{lt-ltb}
+use lib.ListN.{length, getD, drop, set}
+use Rattle.text.specs.Out.{Put, putTo, putOne, putAll}
 use Rattle.text.proofs.Laws.Lists.{drop-next, drop-end}
+
+-- a byte that fits
+pub put-in : (bytes : List ℕ) (i b : ℕ) → i < length bytes → putOne (putTo bytes i) b ≡ putTo (set bytes i b) (i + 1)
+unfolding putOne
+put-in bytes i b h = rw (lt-ltb i (length bytes) h)
 
 pub put-next : (p : Put) (l : List ℕ) (i : ℕ) → i < length l → putAll p (drop i l) ≡ putAll (putOne p (getD l i 0)) (drop (i + 1) l)
 unfolding putAll

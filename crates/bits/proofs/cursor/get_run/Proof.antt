@@ -42,15 +42,6 @@ cast-xs c =
     let c1 = c .before in let c6 = c1 .before .before .before .before .before in
     record { fits = lt-of-lt-of-le (c1 .get .ensures .fit .0) (pow-mono {i = c6 .args .width} {j = 32} (omega arith)) }
 
-slice-write-xs : tie.Need-slice-write-xs Inv-loop μ-loop
-slice-write-xs c = omega arith
-
-add-i : tie.Need-add-i Inv-loop μ-loop
-add-i c = omega arith
-
-loop-less : tie.Need-loop-less Inv-loop μ-loop
-loop-less c = omega arith
-
 loop-again : tie.Need-loop-again Inv-loop μ-loop
 loop-again c =
     let c2 = c .before .before in let c4 = c2 .before .before in let c7 = c4 .before .before .before in
@@ -80,9 +71,9 @@ get-run-spec =
     get-requires
     cast-xs
     (λ c. search needs)  -- mul-xs
-    slice-write-xs
-    add-i
-    loop-less
+    (λ c. omega arith)  -- slice-write-xs
+    (λ c. omega arith)  -- add-i
+    (λ c. omega arith)  -- loop-less
     loop-again
     (λ c. search needs)  -- same-length
     returns)

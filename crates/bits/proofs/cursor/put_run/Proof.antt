@@ -6,7 +6,7 @@ use borrow.Author.Needs.{needs}
 use lib.ListN.{length, take, replicate}
 use lib.Seq.{take-length}
 use Rattle.bits.specs.Cursor.{Wrote}
-use Rattle.bits.proofs.Fields.{fit-at, total-replicate, room}
+use Rattle.bits.proofs.Fields.{fit-below, total-replicate, room}
 use Rattle.bits.proofs.cursor.Laws.{wrote-none, wrote-suc}
 use Rattle.bits.proofs.cursor.put_run.Statement.{statement}
 use Rattle.bits.proofs.cursor.put_run.Tie as tie
@@ -23,9 +23,6 @@ loop-holds c =
     let s = c .before .before in
     (omega arith, refl, wrote-none (s .args .img .now) (s .args .w) (s .pre .0))
 
-shared-slice-read-put : tie.Need-shared-slice-read-put Inv-loop μ-loop
-shared-slice-read-put c = omega arith
-
 cast-put : tie.Need-cast-put Inv-loop μ-loop
 cast-put c = omega (arith, c .shared-slice-known2 .given (c .before .before .before .loop .i))
 
@@ -39,16 +36,10 @@ put-requires c κs =
       l .inv .2 .held,
       (
         omega arith,
-        fit-at n w (s .args .xs .now) (l .i) (s .pre .1 .1) (omega arith),
+        fit-below n w (s .args .xs .now) (s .pre .1 .1) (l .i),
         omega (arith, l .inv .2 .pos, total-replicate (l .i) w, room (l .i) n w (omega arith)),
       ),
     )
-
-add-i : tie.Need-add-i Inv-loop μ-loop
-add-i c = omega arith
-
-loop-less : tie.Need-loop-less Inv-loop μ-loop
-loop-less c = omega arith
 
 loop-again : tie.Need-loop-again Inv-loop μ-loop
 loop-again c =
@@ -75,11 +66,11 @@ put-run-spec =
     μ-loop
     loop-holds
     (λ c. search needs)  -- mul-put
-    shared-slice-read-put
+    (λ c. omega arith)  -- shared-slice-read-put
     cast-put
     put-requires
-    add-i
-    loop-less
+    (λ c. omega arith)  -- add-i
+    (λ c. omega arith)  -- loop-less
     loop-again
     (λ c. search needs)  -- same-length
     returns)

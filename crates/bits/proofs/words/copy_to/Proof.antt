@@ -19,21 +19,6 @@ abbrev μ-loop : tie.MeasureT-loop
 loop-holds : tie.Need-loop-holds Inv-loop μ-loop
 loop-holds c = (omega arith, paste-zero (c .args .img .now) (c .args .at) (c .args .xs .now), refl)
 
-shared-slice-read-img : tie.Need-shared-slice-read-img Inv-loop μ-loop
-shared-slice-read-img c = omega arith
-
-add-img : tie.Need-add-img Inv-loop μ-loop
-add-img c = omega arith
-
-slice-write-img : tie.Need-slice-write-img Inv-loop μ-loop
-slice-write-img c = omega arith
-
-add-j : tie.Need-add-j Inv-loop μ-loop
-add-j c = omega arith
-
-loop-less : tie.Need-loop-less Inv-loop μ-loop
-loop-less c = omega arith
-
 loop-again : tie.Need-loop-again Inv-loop μ-loop
 loop-again c =
     let c2 = c .before .before in let c3 = c2 .before in
@@ -59,11 +44,11 @@ copy-to-spec =
     Inv-loop
     μ-loop
     loop-holds
-    shared-slice-read-img
-    add-img
-    slice-write-img
-    add-j
-    loop-less
+    (λ c. omega arith)  -- shared-slice-read-img
+    (λ c. omega arith)  -- add-img
+    (λ c. omega arith)  -- slice-write-img
+    (λ c. omega arith)  -- add-j
+    (λ c. omega arith)  -- loop-less
     loop-again
     (λ c. search needs)  -- same-length
     returns)

@@ -22,12 +22,6 @@ mul-a c =
     let c1 = c .before in let c2 = c1 .before in
     omega (arith, load-fits (c2 .args .acc) (c1 .loop .j) (c1 .loop .a) (omega arith) (omega arith) (c1 .loop .inv .2))
 
-add-a : tie.Need-add-a Inv-loop μ-loop
-add-a c = omega arith
-
-shared-slice-read-a : tie.Need-shared-slice-read-a Inv-loop μ-loop
-shared-slice-read-a c = omega arith
-
 cast-a : tie.Need-cast-a Inv-loop μ-loop
 cast-a c = omega (arith, c .shared-slice-known .given (c .before .before .before .args .at + c .before .before .loop .j))
 
@@ -41,12 +35,6 @@ add-a-2 c =
       c .shared-slice-known .given (s .args .at + l .j),
       load-fits (s .args .acc) (l .j) (l .a) (omega arith) (omega arith) (l .inv .2),
     )
-
-add-j : tie.Need-add-j Inv-loop μ-loop
-add-j c = omega arith
-
-loop-less : tie.Need-loop-less Inv-loop μ-loop
-loop-less c = omega arith
 
 loop-again : tie.Need-loop-again Inv-loop μ-loop
 loop-again c =
@@ -73,11 +61,11 @@ load-spec =
     μ-loop
     loop-holds
     mul-a
-    add-a
-    shared-slice-read-a
+    (λ c. omega arith)  -- add-a
+    (λ c. omega arith)  -- shared-slice-read-a
     cast-a
     add-a-2
-    add-j
-    loop-less
+    (λ c. omega arith)  -- add-j
+    (λ c. omega arith)  -- loop-less
     loop-again
     returns)

@@ -19,33 +19,6 @@ abbrev μ-loop : tie.MeasureT-loop
 loop-holds : tie.Need-loop-holds Inv-loop μ-loop
 loop-holds c = (omega arith, paste-zero (c .args .img .now) (c .args .at) (unpack (eights (c .args .k)) (c .args .x)), refl)
 
-sub-s : tie.Need-sub-s Inv-loop μ-loop
-sub-s c = omega arith
-
-sub-s-2 : tie.Need-sub-s-2 Inv-loop μ-loop
-sub-s-2 c = omega arith
-
-mul-s : tie.Need-mul-s Inv-loop μ-loop
-mul-s c = omega arith
-
-shr-b : tie.Need-shr-b Inv-loop μ-loop
-shr-b c = omega arith
-
-cast-img : tie.Need-cast-img Inv-loop μ-loop
-cast-img c = omega arith
-
-add-img : tie.Need-add-img Inv-loop μ-loop
-add-img c = omega arith
-
-slice-write-img : tie.Need-slice-write-img Inv-loop μ-loop
-slice-write-img c = omega arith
-
-add-j : tie.Need-add-j Inv-loop μ-loop
-add-j c = omega arith
-
-loop-less : tie.Need-loop-less Inv-loop μ-loop
-loop-less c = omega arith
-
 loop-again : tie.Need-loop-again Inv-loop μ-loop
 loop-again c =
     let s = c .before .before .args in
@@ -54,9 +27,6 @@ loop-again c =
       store-suc (s .img .now) (l .img) (s .at) (s .k) (s .x) (l .j) (omega arith) (omega arith) (l .inv .1),
       length-set (l .img) _ _ ∙ l .inv .2,
     )
-
-same-length : tie.Need-same-length Inv-loop μ-loop
-same-length c = omega arith
 
 returns : tie.Need-returns Inv-loop μ-loop
 returns c =
@@ -70,15 +40,15 @@ store-spec =
     Inv-loop
     μ-loop
     loop-holds
-    sub-s
-    sub-s-2
-    mul-s
-    shr-b
-    cast-img
-    add-img
-    slice-write-img
-    add-j
-    loop-less
+    (λ c. omega arith)  -- sub-s
+    (λ c. omega arith)  -- sub-s-2
+    (λ c. omega arith)  -- mul-s
+    (λ c. omega arith)  -- shr-b
+    (λ c. omega arith)  -- cast-img
+    (λ c. omega arith)  -- add-img
+    (λ c. omega arith)  -- slice-write-img
+    (λ c. omega arith)  -- add-j
+    (λ c. omega arith)  -- loop-less
     loop-again
-    same-length
+    (λ c. omega arith)  -- same-length
     returns)

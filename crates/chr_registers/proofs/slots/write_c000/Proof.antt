@@ -1,5 +1,4 @@
 -- `write_c000` meets its contract.
-use mathlib.Core.Path.{sym, _∙_}
 use borrow.Author.Needs.{needs}
 use borrow.Author.Tests.{eq-eqb, ne-eqb}
 use Rattle.chr_registers.specs.Slots.{writeC000}
@@ -8,13 +7,13 @@ use Rattle.chr_registers.proofs.slots.write_c000.Tie as tie
 
 returns : tie.Need-returns
 unfolding writeC000
-returns c = rw (eq-eqb _ _ (sym (c .before .before .num .ensures .0) ∙ c .before .if1 .taken), c .write-nametable .ensures)
+returns c = rw (← c .before .before .num .ensures .0, eq-eqb _ _ (c .before .if1 .taken), c .write-nametable .ensures)
 
 returns-2 : tie.Need-returns-2
 unfolding writeC000
 returns-2 c =
     let c1 = c .before in let c2 = c1 .before in let c3 = c2 .before in
-    rw (ne-eqb _ _ (λ e. c2 .if1 .left (c3 .num .ensures .0 ∙ e)), c .write-nametable2 .ensures, c1 .maybe-set-board .ensures)
+    rw (← c3 .num .ensures .0, ne-eqb _ _ (c2 .if1 .left), c .write-nametable2 .ensures, c1 .maybe-set-board .ensures)
 
 pub write-c000-spec : {M : Type 1} → statement M
 write-c000-spec =

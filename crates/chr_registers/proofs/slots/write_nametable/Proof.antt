@@ -1,5 +1,4 @@
 -- `write_nametable` meets its contract, board by board.
-use mathlib.Core.Path.{sym, _∙_}
 use borrow.Author.Needs.{needs}
 use borrow.Author.Tests.{eq-eqb, ne-eqb}
 use Rattle.chr_registers.specs.Slots.{writeNametable}
@@ -8,23 +7,17 @@ use Rattle.chr_registers.proofs.slots.write_nametable.Tie as tie
 
 returns : tie.Need-returns
 unfolding writeNametable
-returns c = rw (eq-eqb _ _ (sym (c .before .before .num .ensures .0) ∙ c .before .if1 .taken))
+returns c = rw (← c .before .before .num .ensures .0, eq-eqb _ _ (c .before .if1 .taken))
 
 returns-2 : tie.Need-returns-2
 unfolding writeNametable
 returns-2 c =
     let c1 = c .before in let c2 = c1 .before in let c3 = c2 .before in
-    rw (
-      ne-eqb _ _ (λ e. c2 .if1 .left (c3 .num .ensures .0 ∙ e)),
-      eq-eqb _ _ (sym (c3 .num .ensures .0) ∙ c1 .if2 .taken),
-      c .write-slot .ensures,
-    )
+    rw (← c3 .num .ensures .0, ne-eqb _ _ (c2 .if1 .left), eq-eqb _ _ (c1 .if2 .taken), c .write-slot .ensures)
 
 returns-3 : tie.Need-returns-3
 unfolding writeNametable
-returns-3 c =
-    let c1 = c .before in let c2 = c1 .before in
-    rw (ne-eqb _ _ (λ e. c1 .if1 .left (c2 .num .ensures .0 ∙ e)), ne-eqb _ _ (λ e. c .if2 .left (c2 .num .ensures .0 ∙ e)))
+returns-3 c = rw (← c .before .before .num .ensures .0, ne-eqb _ _ (c .before .if1 .left), ne-eqb _ _ (c .if2 .left))
 
 pub write-nametable-spec : {M : Type 1} → statement M
 write-nametable-spec = tie.close (tie.spec (λ c κs. search needs) returns (λ c κs. search needs) returns-2 returns-3)

@@ -1,10 +1,13 @@
 -- `accepted_run` meets its contract: n single clocks in closed form, by the board.
-use mathlib.Core.Path.{sym, _∙_}
+use mathlib.Core.Path.{_≡_, sym, _∙_}
+use mathlib.Core.Bool.{true}
 use lib.ListN.{length}
 use borrow.Author.Needs.{needs}
 use borrow.Author.Tests.{eq-eqb, ne-eqb}
+use Rattle.chip.specs.Namco163.{is163}
+use Rattle.state.proofs.StateRange.{sound-ok}
 use Rattle.clocks.specs.Run.{runGave}
-use Rattle.clocks.proofs.run.Laws.{sounds-state, sounds-samples, silent-state, silent-samples, rise-is, sound-ok, run-good}
+use Rattle.clocks.proofs.run.Laws.{sounds-state, sounds-samples, silent-state, silent-samples, rise-is, run-good}
 use Rattle.clocks.proofs.run.accepted_run.Statement.{statement}
 use Rattle.clocks.proofs.run.accepted_run.Tie as tie
 
@@ -24,19 +27,21 @@ returns c =
       rw (c7 .pre, silent-samples (a .n) (a .s) p),
     )
 
+is-163 : (c : tie.Else1) → is163 (c .before .before .before .before .before .before .before .args .s .chip .board) ≡ true
+is-163 c = eq-eqb _ _ (sym (c .before .num .ensures .0) ∙ c .if1 .left)
+
 run-sound-requires : tie.Need-run-sound-requires
 run-sound-requires c κs =
-    let c2 = c .before .before in let c3 = c2 .before in let c9 = c3 .before .before .before .before .before .before in
+    let c2 = c .before .before in let c9 = c2 .before .before .before .before .before .before .before in
     let a = c9 .args in let g = run-good (a .s) (a .n) (length (a .samples .now)) (c9 .pre) in
-    let p = eq-eqb _ _ (sym (c3 .num .ensures .0) ∙ c2 .if1 .left) in
-    (sound-ok (a .s) (g .good), rw (← sounds-samples (a .n) (a .s) p) (g .enough))
+    (sound-ok (a .s) (g .good), rw (← sounds-samples (a .n) (a .s) (is-163 c2)) (g .enough))
 
 returns-2 : tie.Need-returns-2
 unfolding runGave
 returns-2 c =
-    let c3 = c .before .before .before in let c6 = c3 .before .before .before in let c7 = c6 .before in
-    let c9 = c7 .before .before in let c13 = c9 .before .before .before .before in
-    let a = c13 .args in let p = eq-eqb _ _ (sym (c7 .num .ensures .0) ∙ c6 .if1 .left) in let r = c3 .run-sound .ensures in (
+    let c3 = c .before .before .before in let c6 = c3 .before .before .before in
+    let c9 = c6 .before .before .before in let c13 = c9 .before .before .before .before in
+    let a = c13 .args in let p = is-163 c6 in let r = c3 .run-sound .ensures in (
       rw (
         c13 .pre,
         sounds-state (a .n) (a .s) p,

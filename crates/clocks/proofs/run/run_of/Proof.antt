@@ -3,29 +3,21 @@ use mathlib.Core.Path.{sym, _∙_}
 use native.Mathlib.Omega.{arith}
 use lib.ListN.{length}
 use borrow.Author.Needs.{needs}
-use Rattle.refusals.specs.Refusals.{firstOf}
-use Rattle.clocks.specs.Run.{clocks, runChecks, runGave}
 use Rattle.clocks.proofs.run.Laws.{run-good, refused-run}
 use Rattle.clocks.proofs.run.run_of.Statement.{statement}
 use Rattle.clocks.proofs.run.run_of.Tie as tie
 
 returns : tie.Need-returns
-unfolding runGave
 returns c =
     let c1 = c .before in let c3 = c1 .before .before in
-    let g = refused-run (firstOf (runChecks (c3 .args .s) (c3 .args .n) (length (c3 .args .samples .now))))
-    (clocks (c3 .args .n) (c3 .args .s)) (c3 .args .samples .now) (c3 .args .s)
-    (λ e. c .if1 .taken (c1 .run-refusal .ensures ∙ e)) in
-    (rw (g, c1 .run-refusal .ensures), rw g)
+    let a = c3 .args in
+    let g = refused-run (a .s) (a .n) (a .samples .now) _ (c1 .run-refusal .ensures) (c .if1 .taken) in (rw g, rw g)
 
 cast-accepted-run : tie.Need-cast-accepted-run
 cast-accepted-run c =
     let c1 = c .before in let c3 = c1 .before .before in
-    omega (
-      arith,
-      run-good (c3 .args .s) (c3 .args .n) (length (c3 .args .samples .now))
-          (sym (c1 .run-refusal .ensures) ∙ c .if1 .left) .short,
-    )
+    let a = c3 .args in
+    omega (arith, run-good (a .s) (a .n) (length (a .samples .now)) (sym (c1 .run-refusal .ensures) ∙ c .if1 .left) .short)
 
 pub run-of-spec : {M : Type 1} → statement M
 run-of-spec =

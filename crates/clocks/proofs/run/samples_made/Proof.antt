@@ -1,28 +1,35 @@
 -- `samples_made` meets its contract: the floor.
-use mathlib.Core.Path.{sym, _∙_}
 use borrow.Author.Needs.{needs}
 use borrow.Author.Tests.{eq-eqb, ne-eqb}
-use Rattle.clocks.proofs.run.Laws.{made-floor, counter-small}
+use Rattle.state.proofs.StateRange.{counter-small}
+use Rattle.clocks.proofs.run.Laws.{made-floor}
 use Rattle.clocks.proofs.run.samples_made.Statement.{statement}
 use Rattle.clocks.proofs.run.samples_made.Tie as tie
 
 returns : tie.Need-returns
 returns c =
     let c1 = c .before in let c3 = c1 .before .before in
-    sym (made-floor (c3 .args .n) (c3 .args .s) (counter-small _ (c3 .pre))
-    ∙ rw (ne-eqb _ _ (λ e. c .if1 .taken (c1 .num .ensures .0 ∙ e))))
+    rw (made-floor (c3 .args .n) (c3 .args .s) (counter-small _ (c3 .pre)), ← c1 .num .ensures .0, ne-eqb _ _ (c .if1 .taken))
 
 returns-2 : tie.Need-returns-2
 returns-2 c =
     let c1 = c .before in let c2 = c1 .before in let c4 = c2 .before .before in
-    sym (made-floor (c4 .args .n) (c4 .args .s) (counter-small _ (c4 .pre))
-    ∙ rw (eq-eqb _ _ (sym (c2 .num .ensures .0) ∙ c1 .if1 .left), c .if2 .taken))
+    rw (
+      made-floor (c4 .args .n) (c4 .args .s) (counter-small _ (c4 .pre)),
+      ← c2 .num .ensures .0,
+      eq-eqb _ _ (c1 .if1 .left),
+      c .if2 .taken,
+    )
 
 returns-3 : tie.Need-returns-3
 returns-3 c =
     let c1 = c .before in let c2 = c1 .before in let c3 = c2 .before in let c5 = c3 .before .before in
-    sym (made-floor (c5 .args .n) (c5 .args .s) (counter-small _ (c5 .pre))
-    ∙ rw (eq-eqb _ _ (sym (c3 .num .ensures .0) ∙ c2 .if1 .left), c1 .if2 .left))
+    rw (
+      made-floor (c5 .args .n) (c5 .args .s) (counter-small _ (c5 .pre)),
+      ← c3 .num .ensures .0,
+      eq-eqb _ _ (c2 .if1 .left),
+      c1 .if2 .left,
+    )
 
 pub samples-made-spec : {M : Type 1} → statement M
 samples-made-spec =

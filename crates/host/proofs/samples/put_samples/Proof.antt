@@ -1,5 +1,5 @@
 -- `put_samples` meets its contract, sample by sample.
-use Prim.Native.Nat.{_+_, _*_, _-_, _≤_}
+use Prim.Native.Nat.{_*_, _-_, _≤_}
 use mathlib.Core.Path.{_≡_, ap, _∙_}
 use mathlib.Core.List.{_++_}
 use lib.ListN.{length, take, drop}
@@ -7,6 +7,7 @@ use Rattle.bits.specs.Fields.{each}
 use Rattle.host.specs.Host.{sampleBytes}
 use Rattle.host.proofs.samples.Laws.{put-none, put-length, put-more}
 use native.Mathlib.Omega.{arith}
+use borrow.Author.Needs.{needs}
 use Rattle.host.proofs.samples.put_samples.Statement.{statement}
 use Rattle.host.proofs.samples.put_samples.Tie as tie
 
@@ -19,45 +20,27 @@ abbrev μ-loop : tie.MeasureT-loop
 loop-holds : tie.Need-loop-holds Inv-loop μ-loop
 loop-holds c = (omega arith, put-none (c .before .before .args .samples .now) (c .before .before .args .bytes .now))
 
-mul-put-sample : tie.Need-mul-put-sample Inv-loop μ-loop
-mul-put-sample c = omega arith
-
-mul-put-sample-2 : tie.Need-mul-put-sample-2 Inv-loop μ-loop
-mul-put-sample-2 c = omega arith
-
-shared-slice-read-put-sample : tie.Need-shared-slice-read-put-sample Inv-loop μ-loop
-shared-slice-read-put-sample c = omega arith
+long : (c : tie.At-loop Inv-loop μ-loop) → length (c .loop .bytes) ≡ length (c .before .before .before .args .bytes .now)
+long c =
+    let a = c .before .before .before .args in
+    ap length (c .loop .inv .1) ∙ put-length (a .samples .now) (a .bytes .now) (c .loop .j) (omega arith) (omega arith)
 
 put-sample-requires : tie.Need-put-sample-requires Inv-loop μ-loop
 put-sample-requires c κs =
     let c2 = c .before .before in let c3 = c2 .before in let c6 = c3 .before .before .before in
-    let s = c6 in
-    let l = c3 .loop in
-    let e = ap length (l .inv .1) ∙ put-length (s .args .samples .now) (s .args .bytes .now) (l .j) (omega arith) (omega arith) in
-    (omega (arith, e), s .pre .1 (l .j) (c2 .loop-test .taken))
-
-add-j : tie.Need-add-j Inv-loop μ-loop
-add-j c = omega arith
-
-loop-less : tie.Need-loop-less Inv-loop μ-loop
-loop-less c = omega arith
+    (omega (arith, long c3), c6 .pre .1 (c3 .loop .j) (c2 .loop-test .taken))
 
 loop-again : tie.Need-loop-again Inv-loop μ-loop
 loop-again c =
     let c2 = c .before .before in let c6 = c2 .before .before .before .before in let c9 = c6 .before .before .before in
-    let s = c9 in
+    let a = c9 .args in
     let l = c6 .loop in (
       omega arith,
-      c2 .put-sample .ensures
-          ∙ rw (l .inv .1) (put-more (s .args .samples .now) (s .args .bytes .now) (l .j) (omega arith) (omega arith)),
+      c2 .put-sample .ensures ∙ rw (l .inv .1) (put-more (a .samples .now) (a .bytes .now) (l .j) (omega arith) (omega arith)),
     )
 
 same-length : tie.Need-same-length Inv-loop μ-loop
-same-length c =
-    let c1 = c .before in let c4 = c1 .before .before .before in
-    let s = c4 in
-    ap length (c1 .loop .inv .1) ∙ put-length (s .args .samples .now) (s .args .bytes .now) (c1 .loop .j) (omega arith)
-    (omega arith)
+same-length c = long (c .before)
 
 returns : tie.Need-returns Inv-loop μ-loop
 returns c =
@@ -71,12 +54,12 @@ put-samples-spec =
     Inv-loop
     μ-loop
     loop-holds
-    mul-put-sample
-    mul-put-sample-2
-    shared-slice-read-put-sample
+    (λ c. search needs)  -- mul-put-sample
+    (λ c. search needs)  -- mul-put-sample-2
+    (λ c. search needs)  -- shared-slice-read-put-sample
     put-sample-requires
-    add-j
-    loop-less
+    (λ c. search needs)  -- add-j
+    (λ c. search needs)  -- loop-less
     loop-again
     same-length
     returns)

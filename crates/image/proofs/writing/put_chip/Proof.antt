@@ -1,11 +1,12 @@
 -- `put_chip` meets its contract: its parts stand one behind the other.
 use mathlib.Core.Path.{_≡_, refl, sym, _∙_}
-use mathlib.Core.List.{[]}
+use mathlib.Core.List.{List, []}
 use lib.ListN.{length, length-map}
-use Prim.Native.Nat.{_+_, _*_}
+use Prim.Native.Nat.{ℕ, _+_, _*_}
 use Rattle.bits.specs.Fields.{total, bit}
+use Rattle.bits.specs.declared.cursor.Cursor.{Cursor}
 use Rattle.bits.proofs.cursor.Laws.{wrote-word}
-use Rattle.image.specs.Image.{joined, chipWidths, chipFields, part}
+use Rattle.image.specs.Image.{imageBytes, joined, chipWidths, chipFields, part}
 use Rattle.image.proofs.Parts.{wrote-to, wrote-end, wrote-part}
 use Rattle.image.proofs.Ranges.{bank-at}
 use native.Mathlib.Omega.{arith}
@@ -13,56 +14,74 @@ use borrow.Author.Needs.{needs}
 use Rattle.image.proofs.writing.put_chip.Statement.{statement}
 use Rattle.image.proofs.writing.put_chip.Tie as tie
 
-put-requires-2 : tie.Need-put-requires-2
+-- ---- where the cursor stands after each part
+
+-- at bit k of an image
+abbrev At : Cursor → List ℕ → ℕ → Type 0
+At w img k = (w .at * 8 + w .n ≡ k) × (length img ≡ imageBytes)
+
+after-regs : (c : tie.After-put) → At (c .put .result) (c .put .last .0) 53
 unfolding total
+after-regs c =
+    let p = c .put .ensures in
+    (omega (arith, p .pos), omega (arith, p .len, c .before .before .before .before .before .pre .0))
+
+after-kind : (c : tie.After-put2) → At (c .put2 .result) (c .put2 .last .0) 58
+unfolding total
+after-kind c =
+    let p = c .put2 .ensures in let a = after-regs (c .before .before .before .before .before) in
+    (omega (arith, p .pos, a .0), omega (arith, p .len, a .1))
+
+after-flags : (c : tie.After-put3) → At (c .put3 .result) (c .put3 .last .0) 70
+unfolding total
+after-flags c =
+    let p = c .put3 .ensures in let a = after-kind (c .before .before .before .before .before .before) in
+    (omega (arith, p .pos, a .0), omega (arith, p .len, a .1))
+
+after-chr : (c : tie.After-put-chr-banks) → At (c .put-chr-banks .result) (c .put-chr-banks .last .0) 166
+unfolding total
+after-chr c =
+    let p = c .put-chr-banks .ensures in let a = after-flags (c .before .before .before .before .before) in
+    (omega (arith, p .pos, a .0), omega (arith, p .len, a .1))
+
+-- ---- what each call asks
+
+put-requires-2 : tie.Need-put-requires-2
 put-requires-2 c κs =
-    let c4 = c .before .before .before .before in let c9 = c4 .before .before .before .before .before in
-    let p = c4 .put .ensures in (p .held, (omega arith, c .kind-word .ensures .1, omega (arith, p .pos, p .len, c9 .pre .0)))
+    let c4 = c .before .before .before .before in let a = after-regs c4 in
+    (c4 .put .ensures .held, (omega arith, c .kind-word .ensures .1, omega (arith, a .0, a .1)))
 
 put-requires-3 : tie.Need-put-requires-3
-unfolding total
 put-requires-3 c κs =
-    let c5 = c .before .before .before .before .before in let c10 = c5 .before .before .before .before .before in
-    let c15 = c10 .before .before .before .before .before in
-    let p = c10 .put .ensures in let q = c5 .put2 .ensures in
-    (q .held, (omega arith, c .flags-word .ensures .1, omega (arith, p .pos, p .len, q .pos, q .len, c15 .pre .0)))
+    let c5 = c .before .before .before .before .before in let a = after-kind c5 in
+    (c5 .put2 .ensures .held, (omega arith, c .flags-word .ensures .1, omega (arith, a .0, a .1)))
 
 put-chr-banks-requires : tie.Need-put-chr-banks-requires
-unfolding total
 put-chr-banks-requires c κs =
-    let c4 = c .before .before .before .before in let c10 = c4 .before .before .before .before .before .before in
-    let c15 = c10 .before .before .before .before .before in let c20 = c15 .before .before .before .before .before in
-    let p = c15 .put .ensures in let q = c10 .put2 .ensures in let r = c4 .put3 .ensures in
-    (r .held, omega (arith, p .pos, p .len, q .pos, q .len, r .pos, r .len, c20 .pre .0))
+    let c4 = c .before .before .before .before in let a = after-flags c4 in
+    (c4 .put3 .ensures .held, omega (arith, a .0, a .1))
 
 banks-word-requires : tie.Need-banks-word-requires
 banks-word-requires c κs =
-    let c25 = c .before .before .before .before .before .before .before .before .before .before .before .before .before .before .before .before .before .before .before .before .before .before .before .before .before in
-    let b = bank-at (c25 .args .chip .«prg_banks») (c25 .pre .1) in (b 0 (omega arith), b 1 (omega arith), b 2 (omega arith))
+    let c4 = c .before .before .before .before in let c9 = c4 .before .before .before .before .before in
+    let c15 = c9 .before .before .before .before .before .before in
+    let c20 = c15 .before .before .before .before .before in let c25 = c20 .before .before .before .before .before in
+    let f = bank-at (c25 .args .chip .«prg_banks») (c25 .pre .1) in (f 0 (omega arith), f 1 (omega arith), f 2 (omega arith))
 
 put-requires-4 : tie.Need-put-requires-4
-unfolding total
 put-requires-4 c κs =
-    let c5 = c .before .before .before .before .before in let c10 = c5 .before .before .before .before .before in
-    let c16 = c10 .before .before .before .before .before .before in
-    let c21 = c16 .before .before .before .before .before in let c26 = c21 .before .before .before .before .before in
-    let p = c21 .put .ensures in let q = c16 .put2 .ensures in let r = c10 .put3 .ensures in let t = c5 .put-chr-banks .ensures in (
-      t .held,
-      (
-        omega arith,
-        c .banks-word .ensures .1,
-        omega (arith, p .pos, p .len, q .pos, q .len, r .pos, r .len, t .pos, t .len, c26 .pre .0),
-      ),
-    )
+    let c5 = c .before .before .before .before .before in let a = after-chr c5 in
+    (c5 .put-chr-banks .ensures .held, (omega arith, c .banks-word .ensures .1, omega (arith, a .0, a .1)))
 
 same-length : tie.Need-same-length
 same-length c =
     let c2 = c .before .before in let c8 = c2 .before .before .before .before .before .before in
     let c13 = c8 .before .before .before .before .before in
-    let c19 = c13 .before .before .before .before .before .before in
-    let c24 = c19 .before .before .before .before .before in
-    (c2 .put4 .ensures .len ∙ c8 .put-chr-banks .ensures .len ∙ c13 .put3 .ensures .len ∙ c19 .put2 .ensures .len
-    ∙ c24 .put .ensures .len)
+    let c19 = c13 .before .before .before .before .before .before in let c24 = c19 .before .before .before .before .before in
+    let c29 = c24 .before .before .before .before .before in
+    c2 .put4 .ensures .len ∙ after-chr c8 .1 ∙ sym (c29 .pre .0)
+
+-- ---- the parts together
 
 chip-bits : 0 * 8 + total (joined chipWidths) ≡ 23 * 8
 unfolding total joined

@@ -1,6 +1,5 @@
 -- `put_phases` meets its contract: phases in range fit their width.
-use mathlib.Core.Path.{_≡_}
-use Prim.Native.Nat.{_-_}
+use mathlib.Core.Path.{_≡_, refl}
 use lib.ListN.{length, getD}
 use Rattle.bits.specs.Fields.{total}
 use Rattle.state.specs.Audio.{phaseTest}
@@ -20,7 +19,7 @@ put-run-requires c κs =
       byte-held 169,
       (
         omega arith,
-        fit-replicate 24 xs
+        fit-replicate (length xs) 24 xs refl
             (λ i h. ltb-true (getD xs i 0) 16777216 (every-at 8 (phaseTest xs) (c3 .pre .1) i (omega arith))),
         omega arith,
       ),

@@ -6,31 +6,37 @@ use Rattle.bits.specs.Fields.{total, bit}
 use Rattle.bits.proofs.cursor.Laws.{wrote-word}
 use Rattle.image.specs.Image.{levelNum}
 use Rattle.image.proofs.Parts.{wrote-to, wrote-part, wrote-done}
-use Rattle.image.proofs.Ranges.{sound-facts}
+use Rattle.image.proofs.Ranges.{SoundFacts, sound-facts}
 use native.Mathlib.Omega.{arith}
 use borrow.Author.Needs.{needs}
 use Rattle.image.proofs.writing.put_sound.Statement.{statement}
 use Rattle.image.proofs.writing.put_sound.Tie as tie
 
+-- what the test of the sound says
+facts : (c : tie.Start) → SoundFacts (c .args .audio)
+facts c = sound-facts (c .args .audio) (c .pre .1)
+
 port-word-requires : tie.Need-port-word-requires
-port-word-requires c κs =
-    let c6 = c .before .before .before .before .before .before in
-    let f = sound-facts _ (c6 .pre .1) in (f .addr, f .counter, f .channel)
+port-word-requires c κs = let f = facts (c .before .before .before .before .before .before) in (f .addr, f .counter, f .channel)
 
 put-levels-requires : tie.Need-put-levels-requires
 put-levels-requires c κs =
-    let c13 = c .before .before .before .before .before .before .before .before .before .before .before .before .before in
-    (search needs, sound-facts _ (c13 .pre .1) .outputs)
+    let c7 = c .before .before .before .before .before .before .before in
+    let c13 = c7 .before .before .before .before .before .before in
+    (search needs, facts c13 .outputs)
 
 put-out-requires : tie.Need-put-out-requires
 put-out-requires c κs =
-    let c17 = c .before .before .before .before .before .before .before .before .before .before .before .before .before .before .before .before .before in
-    (search needs, sound-facts _ (c17 .pre .1) .out)
+    let c9 = c .before .before .before .before .before .before .before .before .before in
+    let c17 = c9 .before .before .before .before .before .before .before .before in
+    (search needs, facts c17 .out)
 
 put-phases-requires : tie.Need-put-phases-requires
 put-phases-requires c κs =
-    let c22 = c .before .before .before .before .before .before .before .before .before .before .before .before .before .before .before .before .before .before .before .before .before .before in
-    (search needs, sound-facts _ (c22 .pre .1) .phases)
+    let c9 = c .before .before .before .before .before .before .before .before .before in
+    let c18 = c9 .before .before .before .before .before .before .before .before .before in
+    let c22 = c18 .before .before .before .before in
+    (search needs, facts c22 .phases)
 
 -- what the types say of the arrays
 long-ram : (c : tie.Start) → length (c .args .audio .ram) ≡ 128

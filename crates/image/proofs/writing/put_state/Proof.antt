@@ -4,7 +4,7 @@ use lib.ListN.{length, length-map}
 use Rattle.bits.specs.Fields.{bit}
 use Rattle.bits.proofs.cursor.Laws.{finish}
 use Rattle.image.specs.Image.{widths, fields, imageOf, chipWidths, chipFields, soundWidths, soundFields, memoryWidths, memoryFields, levelNum}
-use Rattle.image.proofs.Parts.{wrote-parts}
+use Rattle.image.proofs.Parts.{_then_, SameLengths, wrote-parts}
 use Rattle.image.proofs.Whole.{total-widths}
 use Rattle.image.proofs.Ranges.{state-facts}
 use borrow.Author.Needs.{needs}
@@ -21,7 +21,8 @@ put-sound-requires c κs =
 
 put-memory-requires : tie.Need-put-memory-requires
 put-memory-requires c κs =
-    let c13 = c .before .before .before .before .before .before .before .before .before .before .before .before .before in
+    let c9 = c .before .before .before .before .before .before .before .before .before in
+    let c13 = c9 .before .before .before .before in
     (search needs, state-facts (c13 .args .s) (c13 .pre .1) .memory)
 
 -- what the types say of the arrays
@@ -54,27 +55,14 @@ returns c =
     let c2 = c .before .before in let c7 = c2 .before .before .before .before .before in
     let c12 = c7 .before .before .before .before .before in let c16 = c12 .before .before .before .before in
     let s = c16 .args .s in
-    let all = wrote-parts _ _ _ _ _ _ chipWidths (chipFields (s .chip)) _ _ (
-      refl,
-      (
-        refl,
-        (
-          sym (length-map (s .chip .«nt_bank_enable») bit ∙ long-flags c16),
-          (sym (long-chr c16), (sym (long-prg c16), tt)),
-        ),
-      ),
-    )
-    (c12 .put-chip .ensures)
-    (wrote-parts _ _ _ _ _ _ soundWidths (soundFields (s .chip .audio)) memoryWidths (memoryFields (s .memory)) (
-      sym (long-ram c16),
-      (
-        refl,
-        (
-          sym (length-map (s .chip .audio .«channel_out») levelNum ∙ long-outputs c16),
-          (refl, (sym (long-phases c16), tt)),
-        ),
-      ),
-    )
+    let chip : SameLengths chipWidths (chipFields (s .chip)) =
+    refl then refl then sym (length-map (s .chip .«nt_bank_enable») bit ∙ long-flags c16) then sym (long-chr c16)
+    then sym (long-prg c16) then tt in
+    let sound : SameLengths soundWidths (soundFields (s .chip .audio)) =
+    sym (long-ram c16) then refl then sym (length-map (s .chip .audio .«channel_out») levelNum ∙ long-outputs c16) then refl
+    then sym (long-phases c16) then tt in
+    let all = wrote-parts _ _ _ _ _ _ chipWidths (chipFields (s .chip)) _ _ chip (c12 .put-chip .ensures)
+    (wrote-parts _ _ _ _ _ _ soundWidths (soundFields (s .chip .audio)) memoryWidths (memoryFields (s .memory)) sound
     (c7 .put-sound .ensures) (c2 .put-memory .ensures)) in
     let l : length (c2 .put-memory .last .0) ≡ 307 = all .len ∙ c16 .pre .0 in
     rw l at (finish _ (c2 .put-memory .last .0) _ widths (fields s) all (rw l total-widths) (λ i. c .slice-known4 .given i .fits))

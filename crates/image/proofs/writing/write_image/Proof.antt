@@ -1,31 +1,24 @@
 -- `write_image` meets its contract: refused by its length, accepted, refused by its state.
 use mathlib.Core.Path.{sym, _∙_}
-use borrow.Author.Tests.{eq-eqb, ne-eqb}
-use Rattle.refusals.specs.Refusals.{firstOf}
-use Rattle.image.specs.Writing.{writeRefusal, writtenImage}
+use Rattle.image.proofs.writing.Laws.{refused-length, refused-state, accepted}
 use borrow.Author.Needs.{needs}
 use Rattle.image.proofs.writing.write_image.Statement.{statement}
 use Rattle.image.proofs.writing.write_image.Tie as tie
 
 returns : tie.Need-returns
-unfolding writeRefusal writtenImage firstOf
-returns c = (rw (ne-eqb _ _ (c .if1 .taken)), rw (ne-eqb _ _ (c .if1 .taken)))
+returns c = let a = c .before .before .args in refused-length (a .s) (a .img .now) (c .if1 .taken)
 
 put-state-requires : tie.Need-put-state-requires
 put-state-requires c κs = (search needs, sym (c .before .before .in-range .ensures) ∙ c .before .if2 .taken)
 
 returns-2 : tie.Need-returns-2
-unfolding writeRefusal writtenImage firstOf
 returns-2 c =
     let c2 = c .before .before in let c4 = c2 .before .before in let c5 = c4 .before in let c6 = c5 .before in
-    let e = eq-eqb _ _ (c6 .if1 .left) in let f = sym (c5 .in-range .ensures) ∙ c4 .if2 .taken in
-    (rw (e, f), rw (e, f) (c2 .put-state .ensures))
+    let a = accepted _ _ (c6 .if1 .left) (sym (c5 .in-range .ensures) ∙ c4 .if2 .taken) in
+    (a .0, c2 .put-state .ensures ∙ a .1)
 
 returns-3 : tie.Need-returns-3
-unfolding writeRefusal writtenImage firstOf
-returns-3 c =
-    let e = eq-eqb _ _ (c .before .before .if1 .left) in let f = sym (c .before .in-range .ensures) ∙ c .if2 .left in
-    (rw (e, f), rw (e, f))
+returns-3 c = refused-state _ _ (c .before .before .if1 .left) (sym (c .before .in-range .ensures) ∙ c .if2 .left)
 
 pub write-image-spec : {M : Type 1} → statement M
 write-image-spec =

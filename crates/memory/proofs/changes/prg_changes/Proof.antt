@@ -1,20 +1,14 @@
 -- The machine's counts of the mask are those of the entries.
-use mathlib.Core.Path.{_≡_}
-use lib.Count.{trailingZeros}
-use lib.ListN.{length}
-use Rattle.memory.proofs.Laws.Changes.{ones-changed, lowest-changed}
-use Rattle.memory.specs.Changes.{changed, lowestChanged, prgChanges}
 use borrow.Author.Needs.{needs}
+use Rattle.memory.proofs.Laws.Changes.{ones-changed, lowest-changed-of}
+use Rattle.memory.specs.Changes.{prgChanges}
 use Rattle.memory.proofs.changes.prg_changes.Statement.{statement}
 use Rattle.memory.proofs.changes.prg_changes.Tie as tie
 
 returns : tie.Need-returns
 unfolding prgChanges
-returns c = let old = c .before .args .old in
-    let new = c .before .args .new in
-    let n : length old ≡ 64 = search needs in
-    let lowest : trailingZeros 64 (changed old new) ≡ lowestChanged old new = rw n at (lowest-changed old new) in
-    rw (c .changed-prg .ensures, ones-changed old new, lowest)
+returns c = let c1 = c .before in
+    simp (c .changed-prg .ensures, ones-changed, lowest-changed-of 64 (c1 .args .old) (c1 .args .new) (search needs))
 
 pub prg-changes-spec : {M : Type 1} → statement M
 prg-changes-spec = tie.close (tie.spec (λ c κs. search needs) returns)

@@ -9,8 +9,9 @@ use borrow.Author.Needs.{needs}
 use Rattle.memory.proofs.windows.window_base.Statement.{statement}
 use Rattle.memory.proofs.windows.window_base.Tie as tie
 
-base : (c : tie.After-bank-index) → c .bank-index .result * c .before .before .args .size ≡ windowBase
-    (c .before .before .args .len) (c .before .before .args .size) (c .before .before .args .bank)
+base : (c : tie.After-bank-index)
+    → c .bank-index .result * c .before .before .args .size
+    ≡ windowBase (c .before .before .args .len) (c .before .before .args .size) (c .before .before .args .bank)
 unfolding windowBase
 base c = rw (c .bank-index .ensures, toZ-ofZ (c .before .before .fits .bank), c .before .banks .ensures .0)
 

@@ -1,8 +1,10 @@
 -- `cpu_read_of` meets its contract: refused, and accepted.
-use mathlib.Core.Path.{sym, _∙_}
+use mathlib.Core.Path.{_≡_, sym, _∙_}
 use borrow.Author.Needs.{needs}
 use borrow.Author.Tests.{ne-eqb}
-use Rattle.refusals.proofs.Laws.{cpu-good, backed, port-good}
+use Rattle.state.proofs.StateRange.{port-good}
+use Rattle.refusals.specs.Refusals.{firstOf, cpuChecks}
+use Rattle.refusals.proofs.Laws.{Arena, cpu-good, backed}
 use Rattle.namco163.specs.Calls.{cpuRead}
 use lib.ListN.{length}
 use Rattle.namco163.proofs.calls.cpu_read_of.Statement.{statement}
@@ -12,24 +14,24 @@ returns : tie.Need-returns
 unfolding cpuRead
 returns c = rw (← c .before .cpu-refusal-of .ensures, ne-eqb _ _ (c .if1 .taken))
 
+-- none of the checks holds
+accepted : (c : tie.Else1) → let a = c .before .before .before .args in
+    firstOf (cpuChecks (a .s) (length (a .arena .now)) (a .addr)) ≡ 0
+accepted c = sym (c .before .cpu-refusal-of .ensures) ∙ c .if1 .left
+
+good : (c : tie.Else1) → let a = c .before .before .before .args in Arena (a .s) (length (a .arena .now))
+good c = cpu-good _ _ (c .before .before .before .args .addr) (accepted c) .0
+
 cpu-byte-requires : tie.Need-cpu-byte-requires
-cpu-byte-requires c κs =
-    let c1 = c .before in let c3 = c1 .before .before in
-    let g = (let a = c3 .args in cpu-good (a .s) (length (a .arena .now)) (a .addr)
-    (sym (c1 .cpu-refusal-of .ensures) ∙ c .if1 .left) .0) in
-    (port-good _ (g .good), backed _ _ g)
+cpu-byte-requires c κs = let g = good c in (port-good _ (g .good), backed _ _ g)
 
 after-read-requires : tie.Need-after-read-requires
-after-read-requires c κs =
-    let c2 = c .before .before in let c3 = c2 .before in let c5 = c3 .before .before in
-    port-good _ ((let a = c5 .args in cpu-good (a .s) (length (a .arena .now)) (a .addr)
-    (sym (c3 .cpu-refusal-of .ensures) ∙ c2 .if1 .left) .0) .good)
+after-read-requires c κs = port-good _ (good (c .before .before) .good)
 
 returns-2 : tie.Need-returns-2
 unfolding cpuRead
 returns-2 c =
-    let c2 = c .before .before in let c3 = c2 .before in let c4 = c3 .before in
-    rw (sym (c4 .cpu-refusal-of .ensures) ∙ c3 .if1 .left, c2 .cpu-byte .ensures, c .after-read .ensures)
+    let c2 = c .before .before in rw (accepted (c2 .before), c2 .cpu-byte .ensures, c .after-read .ensures)
 
 pub cpu-read-of-spec : {M : Type 1} → statement M
 cpu-read-of-spec = tie.close (tie.spec (λ c κs. search needs) returns cpu-byte-requires after-read-requires returns-2)

@@ -1,8 +1,10 @@
 -- `cpu_write_of` meets its contract: refused, and accepted. The store comes before the registers.
-use mathlib.Core.Path.{sym, _∙_}
+use mathlib.Core.Path.{_≡_, sym, _∙_}
 use borrow.Author.Needs.{needs}
 use borrow.Author.Tests.{ne-eqb}
-use Rattle.refusals.proofs.Laws.{cpu-good, memory-good, backed, port-good}
+use Rattle.state.proofs.StateRange.{memory-good, port-good}
+use Rattle.refusals.specs.Refusals.{firstOf, cpuChecks}
+use Rattle.refusals.proofs.Laws.{Arena, cpu-good, backed}
 use Rattle.namco163.specs.Calls.{cpuWrite, cpuWriteArena}
 use lib.ListN.{length}
 use Rattle.namco163.proofs.calls.cpu_write_of.Statement.{statement}
@@ -16,26 +18,28 @@ returns c =
       rw (← c2 .cpu-refusal-of .ensures, ne-eqb _ _ (c1 .if1 .taken)),
     )
 
+-- none of the checks holds
+accepted : (c : tie.Else1) → let a = c .before .before .before .args in
+    firstOf (cpuChecks (a .s) (length (a .arena .now)) (a .addr)) ≡ 0
+accepted c = sym (c .before .cpu-refusal-of .ensures) ∙ c .if1 .left
+
+good : (c : tie.Else1) → let a = c .before .before .before .args in Arena (a .s) (length (a .arena .now))
+good c = cpu-good _ _ (c .before .before .before .args .addr) (accepted c) .0
+
 prg-write-requires : tie.Need-prg-write-requires
-prg-write-requires c κs =
-    let c2 = c .before .before in let c3 = c2 .before in let c5 = c3 .before .before in
-    backed _ _ (let a = c5 .args in cpu-good (a .s) (length (a .arena .now)) (a .addr)
-    (sym (c3 .cpu-refusal-of .ensures) ∙ c2 .if1 .left) .0)
+prg-write-requires c κs = backed _ _ (good (c .before .before))
 
 write-register-requires : tie.Need-write-register-requires
 write-register-requires c κs =
-    let c5 = c .before .before .before .before .before in let c6 = c5 .before in let c8 = c6 .before .before in
-    let g = (let a = c8 .args in cpu-good (a .s) (length (a .arena .now)) (a .addr)
-    (sym (c6 .cpu-refusal-of .ensures) ∙ c5 .if1 .left) .0) in
-    (port-good _ (g .good), memory-good _ (g .good) .ranged .sized)
+    let c5 = c .before .before .before .before .before in
+    let g = good c5 .good in (port-good _ g, memory-good _ g .ranged .sized)
 
 returns-2 : tie.Need-returns-2
 unfolding cpuWrite cpuWriteArena
 returns-2 c =
-    let c2 = c .before .before in let c5 = c2 .before .before .before in let c8 = c5 .before .before .before in
-    let c9 = c8 .before in (
-      rw (sym (c9 .cpu-refusal-of .ensures) ∙ c8 .if1 .left, c .changes-between .ensures, c2 .write-register .ensures),
-      rw (sym (c9 .cpu-refusal-of .ensures) ∙ c8 .if1 .left) (c5 .prg-write .ensures),
+    let c2 = c .before .before in let c5 = c2 .before .before .before in let c8 = c5 .before .before .before in (
+      rw (accepted c8, c .changes-between .ensures, c2 .write-register .ensures),
+      rw (accepted c8) (c5 .prg-write .ensures),
     )
 
 pub cpu-write-of-spec : {M : Type 1} → statement M

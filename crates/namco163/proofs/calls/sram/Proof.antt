@@ -2,7 +2,8 @@
 use mathlib.Core.Path.{sym, _∙_}
 use borrow.Author.Needs.{needs}
 use borrow.Author.Tests.{ne-eqb}
-use Rattle.refusals.proofs.Laws.{state-good, memory-good}
+use Rattle.state.proofs.StateRange.{memory-good}
+use Rattle.refusals.proofs.Laws.{state-good}
 use Rattle.namco163.specs.Calls.{sramAnswer}
 use Rattle.namco163.proofs.calls.sram.Statement.{statement}
 use Rattle.namco163.proofs.calls.sram.Tie as tie

@@ -1,5 +1,4 @@
 -- A layout within its limits has good page counts.
-use Prim.Native.Nat.{_-_}
 use mathlib.Core.Path.{sym, _∙_}
 use borrow.Author.Needs.{needs}
 use Rattle.memory.proofs.Laws.Layout.{layout-good}

@@ -1,5 +1,4 @@
 -- The part that is lent has as many samples as asked.
-use Prim.Native.Nat.{_-_}
 use mathlib.Core.Path.{sym}
 use lib.Seq.{length-take-le}
 use denote.Ref.{now}

@@ -1,5 +1,4 @@
 -- The line is a first part of the buffer.
-use Prim.Native.Nat.{_-_}
 use mathlib.Core.Path.{sym}
 use lib.Seq.{length-take-le}
 use denote.Ref.{now}

@@ -1,5 +1,4 @@
 -- By the test.
-use Prim.Native.Nat.{_-_}
 use mathlib.Core.Path.{sym}
 use lib.ListN.{length}
 use lib.Seq.{length-take-le}

@@ -18,22 +18,10 @@ abbrev μ-loop : tie.MeasureT-loop
 loop-holds : tie.Need-loop-holds Inv-loop μ-loop
 loop-holds c = midway-0 _ _ (c .before .args .out .now) refl
 
-slice-write-out : tie.Need-slice-write-out Inv-loop μ-loop
-slice-write-out c = omega arith
-
-add-i : tie.Need-add-i Inv-loop μ-loop
-add-i c = omega arith
-
-loop-less : tie.Need-loop-less Inv-loop μ-loop
-loop-less c = omega arith
-
 loop-again : tie.Need-loop-again Inv-loop μ-loop
 loop-again c =
     let l = c .before .before .before .loop in
     rw (c .before .read-of .ensures) (midway-more _ _ (l .i) (l .out) (l .p) (omega arith) (l .inv))
-
-same-length : tie.Need-same-length Inv-loop μ-loop
-same-length c = omega arith
 
 returns : tie.Need-returns Inv-loop μ-loop
 returns c =
@@ -49,9 +37,9 @@ read-block-spec =
     μ-loop
     loop-holds
     (λ c κs. search needs)  -- read-of-requires
-    slice-write-out
-    add-i
-    loop-less
+    (λ c. omega arith)  -- slice-write-out
+    (λ c. omega arith)  -- add-i
+    (λ c. omega arith)  -- loop-less
     loop-again
-    same-length
+    (λ c. omega arith)  -- same-length
     returns)

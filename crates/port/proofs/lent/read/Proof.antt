@@ -1,5 +1,12 @@
 -- `read` meets its contract: a walk of its code, by hand. The loan is opened, the port is copied out and passed to `step`, of which
 -- only the contract is known, the port that comes back is stored whole, and the loan is closed at it.
+--
+-- How to read a walk. A list in brackets is what is owned where it stands: locals by the names of the MIR (`rt mir port` prints it), _0 the
+-- answer and _1 the parameter; "room for" a local that has no value yet; and behind each local, as `…`, the right to free it.
+-- Steps of the code are `alloc1`, `assigns`, `calls-at`, `land` (a call's answer goes into its local), `returns` and `free1`; in them
+-- `look ! n`, `init ! n` and `store ! n` read, fill and overwrite the n-th of the list. `move`, `keep`, `drop`, `split`, `join` and
+-- `frame` only rearrange the list, `use1` replaces its first by what follows from it, and `peeks`, `heard` and `pick` learn a fact or a
+-- name from its first. `exits` shows the contract's right side from what is left at the end.
 use mathlib.Core.Path.{_≡_, refl, ap}
 use Prim.Native.Nat.{ℕ, _<_, _^_}
 use mathlib.Core.List.{[], _∷_, List}
@@ -53,6 +60,9 @@ use Rattle.port.proofs.lent.read as read
 use Rattle.port.proofs.lent.read.Statement as stated
 use Rattle.port.proofs.lent.read.Code as code
 
+-- ---- what the contracts are about
+
+-- the port is a reference that the body still owns at the end
 abbrev stayed : Stays (read.ended .signature .params) (read.ended .kept)
 stayed = (stay-ref (0 ∷ []) tt (plain (λ _. T.the-row)), tt)
 
@@ -75,6 +85,9 @@ abbrev Step : {M : Type 1} (𝓤 : URA M) (H : Heap 𝓤) (A : Atoms 𝓤) (at-m
 Step 𝓤 H A at-mem run = tripleOf 𝓤 H A step.signature (step.spec 𝓤 H A at-mem run)
 
 module _ {M : Type 1} (𝓤 : URA M) (H : Heap 𝓤) (A : Atoms 𝓤) (W : Given 𝓤 H A) (at-mem : Memory → SProp 𝓤) (run : Routine → Fun 𝓤) (κ : Lft) (q : Share) (b o : ℕ) (γ : GName) (h : Port) where
+  -- ---- the end, and the call of `step`
+
+  -- the lent port h, at b and o under the name γ, for the lifetime κ
   abbrev x : RefT Port × Unit {0}
   x = (record { ptr = (b, o); name = γ; now = h }, tt)
 
@@ -84,8 +97,9 @@ module _ {M : Type 1} (𝓤 : URA M) (H : Heap 𝓤) (A : Atoms 𝓤) (W : Given
   abbrev Post : Val → SProp 𝓤
   Post = walkOf 𝓤 H A read.ended stayed (read.clauses 𝓤 H A at-mem run) .post (((κ, tt), (q, tt), tt, x, at), tt)
 
-  exits : (r : PortRead) → r ≡ stepOf h → r .byte < 2 ^ 8 → ent 𝓤
-      (⋆ 𝓤 H A (‵ (fobs γ (T.the-row .coded .code (r .port))) ∷ ‵ (fbor κ (Body (mem T.the-row) b o γ)) ∷ ‵ (flft κ q) ∷ []))
+  -- what is left at the end: the port's last value, its loan and the lifetime's token
+  exits : (r : PortRead) → r ≡ stepOf h → r .byte < 2 ^ 8
+      → ent 𝓤 (⋆ 𝓤 H A (‵ (fobs γ (T.the-row .coded .code (r .port))) ∷ ‵ (fbor κ (Body (mem T.the-row) b o γ)) ∷ ‵ (flft κ q) ∷ []))
       (Post (vint w8 (r .byte)))
   exits r e fits =
       qed W (‵ (fobs γ (T.the-row .coded .code (r .port))) ∷ ‵ (fbor κ (Body (mem T.the-row) b o γ)) ∷ ‵ (flft κ q) ∷ []) ∵
@@ -104,9 +118,10 @@ module _ {M : Type 1} (𝓤 : URA M) (H : Heap 𝓤) (A : Atoms 𝓤) (W : Given
   goes-step = qed W (‵ (T.the-row .own h (port-val h ∷ [])) ∷ []) ∵ nothing ! $ move !
       (1 ∷ 0 ∷ []) $ join ! $ nothing ! $ join ! $ frame ! $ done !
 
-  stepped : (r : PortRead) → ent 𝓤 (ensured 𝓤 H A step.ended (step.clauses 𝓤 H A at-mem run) tt (h, tt) tt r)
-      (fact 𝓤 (r ≡ stepOf h))
+  stepped : (r : PortRead) → ent 𝓤 (ensured 𝓤 H A step.ended (step.clauses 𝓤 H A at-mem run) tt (h, tt) tt r) (fact 𝓤 (r ≡ stepOf h))
   stepped r = exE 𝓤 _ (λ ws. snd∗ 𝓤 (sem 𝓤 H A (lasts step.ended tt (h, tt) ws)) (fact 𝓤 (r ≡ stepOf h)))
+
+  -- ---- the walk
 
   module _ (C : Calls 𝓤 H) (Λ : Loops 𝓤 H) (fm : FmC 𝓤 H (W .laws) C)
       (known : Triple 𝓤 (C #port·step) (Step 𝓤 H A at-mem run)) where
@@ -124,6 +139,7 @@ module _ {M : Type 1} (𝓤 : URA M) (H : Heap 𝓤) (A : Atoms 𝓤) (W : Given
         use1 W (‵ (fat fullShare T′.mir b o (port-val h))) (W .laws .raw-at fullShare T′.mir b o (port-val h)) $
         move ! (1 ∷ []) $ peeks ! T.the-row (Is T.the-row) (shows 𝓤 H A T.the-row) h (port-val h ∷ []) (λ was. move ! (1 ∷ 0 ∷ []) $
         -- [the port's cell; what a Port owns; the open borrow; obs; auth; true; true; _3; …; _2; …; _1; …; room for _0; …]
+        -- `step(*port)`: the port is copied to _3, and passed
         assigns ! (of-opd ! (load ! (from ! (hop ! (look ! 11 refl) (stop !))) (look ! 0 refl))) (from ! (stop !))
         (init ! 7 refl (LL.lawful T.the-type T′.the-laws 𝓤 H A W .typed h _ was .0)) $
         owned ! T.the-row (Is T.the-row) ((LL.makes T.the-type T′.the-plain) 𝓤 H A) h _ was $ use1 W
@@ -136,11 +152,14 @@ module _ {M : Type 1} (𝓤 : URA M) (H : Heap 𝓤) (A : Atoms 𝓤) (W : Given
         (λ e. split ! $ drop ! $
         peeks ! S.the-row (Is S.the-row) (shows 𝓤 H A S.the-row) r (v ∷ []) (λ is.
         -- [what the answer owns; the port's cell; what a Port owns; the open borrow; obs; auth; true; true; _3; …; room for _2; …; _1; …; room for _0; …]
+        -- `let s`: the answer goes into _2
         land ! (from ! (stop !)) (init ! 10 refl (LL.lawful S.the-type S′.the-laws 𝓤 H A W .typed r _ is .0)) $
         rewrite ! 10 (λ (u : Val). ‵ (fat fullShare S′.mir l₂ 0 u)) (ap only (LL.tells S.the-type S′.the-laws r _ is)) refl $
+        -- `*port = s.port`
         assigns ! (of-opd ! (load ! (from ! (fld ! refl (stop !))) (look-in ! 10 (sub ! 1 refl (whole !)))))
         (from ! (hop ! (look ! 12 refl) (stop !)))
         (store ! 1 refl (LL.lawful T.the-type T′.the-laws 𝓤 H A W .typed (r .port) _ (port-is r v is) .0)) $
+        -- `s.byte` is the answer
         assigns ! (of-opd ! (load ! (from ! (fld ! refl (stop !))) (look-in ! 10 (sub ! 0 refl (whole !))))) (from ! (stop !))
         (init ! 14 refl (tt, record { fits = byte-fits r v is })) $
         -- the loan is closed at the port that came back
@@ -148,10 +167,13 @@ module _ {M : Type 1} (𝓤 : URA M) (H : Heap 𝓤) (A : Atoms 𝓤) (W : Given
         (W .laws .at-raw fullShare T′.mir b o (port-val (r .port))) $
         move ! (1 ∷ []) $ drop ! $ owned ! T.the-row (Is T.the-row) ((LL.makes T.the-type T′.the-plain) 𝓤 H A) (r .port) _
         (port-is r v is) $ move ! (1 ∷ 0 ∷ []) $ closes ! tt T.the-row (r .port) (port-val (r .port) ∷ []) b o $
+        -- the locals are freed
         returns ! (look ! 11 refl) $ forget ! 5 refl $ forget ! 7 refl $ forget ! 9 refl $ forget ! 11 refl $
         move ! (11 ∷ 12 ∷ []) $ free1 ! $ move ! (9 ∷ 10 ∷ []) $ free1 ! $ move ! (7 ∷ 8 ∷ []) $ free1 ! $ move !
         (5 ∷ 6 ∷ []) $ free1 ! $ free0 ! $
         keep ! (0 ∷ 1 ∷ 2 ∷ []) $ by ! (exits r e (byte-fits r v is))))))))))))
+
+-- ---- from the walk to the contract, as every proof by hand does it
 
 module _ {M : Type 1} (𝓤 : URA M) (H : Heap 𝓤) (A : Atoms 𝓤) (W : Given 𝓤 H A) (at-mem : Memory → SProp 𝓤) (run : Routine → Fun 𝓤) where
   read-walks : (C : Calls 𝓤 H) (Λ : Loops 𝓤 H) → FmC 𝓤 H (W .laws) C → Triple 𝓤 (C #port·step) (Step 𝓤 H A at-mem run)
@@ -161,8 +183,8 @@ module _ {M : Type 1} (𝓤 : URA M) (H : Heap 𝓤) (A : Atoms 𝓤) (W : Given
       (λ κs qs bounds a _ _. via 𝓤 _ (fst∗ 𝓤 _ (emp 𝓤))
       (walk 𝓤 H A W at-mem run (κs .0) (qs .0) (a .0 .ptr .0) (a .0 .ptr .1) (a .0 .name) (a .0 .now) C Λ fm known))
 
-read-meets : {M : Type 1} (𝓤 : URA M) (H : Heap 𝓤) (A : Atoms 𝓤) → Given 𝓤 H A → (at-mem : Memory → SProp 𝓤) (run : Routine → Fun 𝓤)
-    (𝓣 : Tables 𝓤 H) → Triple 𝓤 (𝓣 .C #port·step) (Step 𝓤 H A at-mem run)
+read-meets : {M : Type 1} (𝓤 : URA M) (H : Heap 𝓤) (A : Atoms 𝓤) → Given 𝓤 H A
+    → (at-mem : Memory → SProp 𝓤) (run : Routine → Fun 𝓤) (𝓣 : Tables 𝓤 H) → Triple 𝓤 (𝓣 .C #port·step) (Step 𝓤 H A at-mem run)
     → Meets 𝓤 H A read.signature (WpFn 𝓤 H (𝓣 .C) (𝓣 .Λ) code.function) (read.spec 𝓤 H A at-mem run)
 read-meets 𝓤 H A W at-mem run 𝓣 known =
     walk-meets 𝓤 H A read.ended stayed W (goes-ref 𝓤 H A W 1 0 tt (plain (λ _. T.the-row)), tt) (read.clauses 𝓤 H A at-mem run)

@@ -1,5 +1,6 @@
 -- `read_of` meets its contract: a walk of its code, by hand. The port is put into a local, which is lent to `read` for a lifetime of the
 -- call; of `read` only the contract is known, and the local comes back at the port that `read` leaves.
+-- The head of proofs/lent/read/Proof.antt says how to read a walk.
 use mathlib.Core.Path.{_≡_, refl, ap}
 use Prim.Native.Nat.{ℕ}
 use mathlib.Core.List.{[], _∷_, List}
@@ -55,6 +56,9 @@ use Rattle.port.proofs.lent.read_of as read-of
 use Rattle.port.proofs.lent.read_of.Statement as stated
 use Rattle.port.proofs.lent.read_of.Code as code
 
+-- ---- what the contracts are about
+
+-- the parameter is passed by value, and nothing of it is left at the end
 abbrev stayed : Stays (read-of.ended .signature .params) (read-of.ended .kept)
 stayed = (stay-none (λ _. T.the-row) yes, tt)
 
@@ -68,6 +72,8 @@ IsPort p = Is T.the-row p (port-val p ∷ [])
 -- the contract that the proof cites
 abbrev Read : {M : Type 1} (𝓤 : URA M) (H : Heap 𝓤) (A : Atoms 𝓤) (at-mem : Memory → SProp 𝓤) (run : Routine → Fun 𝓤) → Contract 𝓤
 Read 𝓤 H A at-mem run = tripleOf 𝓤 H A read.signature (read.spec 𝓤 H A at-mem run)
+
+-- ---- a loan of a local
 
 module _ {M : Type 1} (𝓤 : URA M) (H : Heap 𝓤) (A : Atoms 𝓤) (W : Given 𝓤 H A) (b : ℕ) (p : Port) where
   -- a local that holds a port, as what a loan of it takes and gives back
@@ -88,11 +94,14 @@ module _ {M : Type 1} (𝓤 : URA M) (H : Heap 𝓤) (A : Atoms 𝓤) (W : Given
       (LL.tells T.the-type T′.the-laws) fullShare p vs b 0 $
       use1 W (‵ (fat fullShare T′.mir b 0 (port-val p))) (W .laws .raw-at fullShare T′.mir b 0 (port-val p)) $ done !)
 
+-- ---- the end, and the call of `read`
+
 module _ {M : Type 1} (𝓤 : URA M) (H : Heap 𝓤) (A : Atoms 𝓤) (W : Given 𝓤 H A) (at-mem : Memory → SProp 𝓤) (run : Routine → Fun 𝓤) (h : Port) (was : IsPort h) where
   abbrev Post : Val → SProp 𝓤
   Post = walkOf 𝓤 H A read-of.ended stayed (read-of.clauses 𝓤 H A at-mem run) .post
       ((tt, tt, tt, (h, tt), (port-val h ∷ [], tt)), tt)
 
+  -- what is left at the end: the answer
   exits : (r : PortRead) (v : Val) → r ≡ stepOf h → ent 𝓤 (sem 𝓤 H A (S.the-row .own r (v ∷ []))) (Post v)
   exits r v e =
       qed W (‵ (S.the-row .own r (v ∷ [])) ∷ []) ∵
@@ -108,12 +117,15 @@ module _ {M : Type 1} (𝓤 : URA M) (H : Heap 𝓤) (A : Atoms 𝓤) (W : Given
   abbrev to-read : ℕ → ℕ → GName → Read 𝓤 H A at-mem run .Ghost
   to-read b ν γ = (((ν ∷ [], tt), (fullShare, tt), tt, (x b γ, tt), (vptr b 0 ∷ [], tt)), tt)
 
-  goes-read : (b ν : ℕ) (γ : GName) → ent 𝓤
-      (sep 𝓤 (A .lft (ν ∷ []) fullShare) (sem 𝓤 H A (MutRef (named 0) (ν ∷ []) T.the-row .own (x b γ) (vptr b 0 ∷ []))))
+  -- the lifetime's token and the reference are `read`'s left side
+  goes-read : (b ν : ℕ) (γ : GName)
+      → ent 𝓤 (sep 𝓤 (A .lft (ν ∷ []) fullShare) (sem 𝓤 H A (MutRef (named 0) (ν ∷ []) T.the-row .own (x b γ) (vptr b 0 ∷ []))))
       (Read 𝓤 H A at-mem run .pre (to-read b ν γ))
   goes-read b ν γ =
       qed W (‵ (flft (ν ∷ []) fullShare) ∷ ‵ (MutRef (named 0) (ν ∷ []) T.the-row .own (x b γ) (vptr b 0 ∷ [])) ∷ []) ∵
       nothing ! $ move ! (2 ∷ 0 ∷ []) $ join ! $ nothing ! $ move ! (2 ∷ 0 ∷ []) $ join ! $ join ! $ frame ! $ done !
+
+  -- ---- the walk
 
   module _ (C : Calls 𝓤 H) (Λ : Loops 𝓤 H) (fm : FmC 𝓤 H (W .laws) C)
       (known : Triple 𝓤 (C #port·read) (Read 𝓤 H A at-mem run)) where
@@ -127,6 +139,7 @@ module _ {M : Type 1} (𝓤 : URA M) (H : Heap 𝓤) (A : Atoms 𝓤) (W : Given
         (λ l₄. alloc1 ! (λ l₅. alloc0 ! $ params1 ! $ pass1 !
         (init ! 8 refl (LL.lawful T.the-type T′.the-laws 𝓤 H A W .typed h _ was .0)) $ pass0 ! $
         -- [_5; …; _4; …; _3; …; _2; …; _1; …; room for _0; …; true; what p owns]
+        -- `mut p` is the local _2, and `&mut p` goes into _4
         assigns ! (of-opd ! (load ! (from ! (stop !)) (look ! 8 refl))) (from ! (stop !))
         (init ! 6 refl (LL.lawful T.the-type T′.the-laws 𝓤 H A W .typed h _ was .0)) $
         assigns ! (addr ! (from ! (stop !))) (from ! (stop !)) (init ! 2 refl (tt, tt)) $
@@ -149,6 +162,7 @@ module _ {M : Type 1} (𝓤 : URA M) (H : Heap 𝓤) (A : Atoms 𝓤) (W : Given
         split ! $ move ! (1 ∷ []) $ heard ! ((r ≡ byteOf h) × (zs .0 ≡ afterRead h)) (λ e. fsplit ! $
         move ! (2 ∷ []) $ split ! $ move ! (1 ∷ []) $ peeks ! u8 (Is u8) (shows 𝓤 H A u8) r (v ∷ []) (λ is.
         -- [what the byte owns; the token; the last port; true; the lender's part; _5; …; _4; …; room for _3; …; _2's end; _1; …; room for _0; …]
+        -- `let byte`: the answer goes into _3
         land ! (from ! (stop !)) (init ! 9 refl (uint-lawful 𝓤 H A W w8 .typed r _ is .0)) $ rewrite ! 9
         (λ (u : Val). ‵ (fat fullShare (tyInt w8) l₃ 0 u)) (ap only (is .0)) refl $
         -- the lifetime is ended, and the local comes back at that port
@@ -159,12 +173,14 @@ module _ {M : Type 1} (𝓤 : URA M) (H : Heap 𝓤) (A : Atoms 𝓤) (W : Given
         move ! (1 ∷ []) $ peeks ! T.the-row (Is T.the-row) (shows 𝓤 H A T.the-row) (zs .0) (port-val (zs .0) ∷ [])
         (λ came. move ! (1 ∷ 0 ∷ []) $
         -- [_2; what the port owns; true; what the byte owns; true; room for _5; …; _4; …; _3; …; _2's end; _1; …; room for _0; …]
+        -- `PortRead { byte, port: p }`, with a copy of p in _5
         assigns ! (of-opd ! (load ! (from ! (stop !)) (look ! 0 refl))) (from ! (stop !))
         (init ! 5 refl (LL.lawful T.the-type T′.the-laws 𝓤 H A W .typed (zs .0) _ came .0)) $
         assigns ! (agg ! (and-then ! (load ! (from ! (stop !)) (look ! 9 refl))
         (and-then ! (load ! (from ! (stop !)) (look ! 5 refl)) (no-more !)))) (from ! (stop !))
         (init ! 14 refl (LL.lawful S.the-type S′.the-laws 𝓤 H A W .typed (record { byte = r; port = zs .0 }) _
         (LL.owes S.the-type S′.the-laws (record { byte = r; port = zs .0 }) ((refl, is .1), (came, tt))) .0)) $
+        -- the locals are freed
         returns ! (look ! 14 refl) $ forget ! 0 refl $ forget ! 5 refl $ forget ! 7 refl $ forget ! 9 refl $ forget ! 12 refl $ forget ! 14 refl $
         move ! (14 ∷ 15 ∷ []) $ free1 ! $ move ! (12 ∷ 13 ∷ []) $ free1 ! $ move ! (0 ∷ 11 ∷ []) $ free1 ! $ move !
         (8 ∷ 9 ∷ []) $ free1 ! $ move ! (6 ∷ 7 ∷ []) $ free1 ! $ move ! (4 ∷ 5 ∷ []) $ free1 ! $ free0 ! $
@@ -173,6 +189,8 @@ module _ {M : Type 1} (𝓤 : URA M) (H : Heap 𝓤) (A : Atoms 𝓤) (W : Given
         keep ! (0 ∷ []) $ by ! (exits (record { byte = r; port = zs .0 }) _
         (λ i. record { byte = e .0 i; port = e .1 i }))))))))))))))))
 
+-- ---- from the walk to the contract, as every proof by hand does it
+
 module _ {M : Type 1} (𝓤 : URA M) (H : Heap 𝓤) (A : Atoms 𝓤) (W : Given 𝓤 H A) (at-mem : Memory → SProp 𝓤) (run : Routine → Fun 𝓤) where
   read-of-walks : (C : Calls 𝓤 H) (Λ : Loops 𝓤 H) → FmC 𝓤 H (W .laws) C → Triple 𝓤 (C #port·read) (Read 𝓤 H A at-mem run)
       → Walks 𝓤 H A read-of.ended stayed (WpFn 𝓤 H C Λ code.function) (read-of.clauses 𝓤 H A at-mem run)
@@ -180,8 +198,8 @@ module _ {M : Type 1} (𝓤 : URA M) (H : Heap 𝓤) (A : Atoms 𝓤) (W : Given
       (λ κs. (LL.vals T.the-type T′.the-laws, tt)) (λ κs. (LL.tells T.the-type T′.the-laws, tt))
       (λ κs qs bounds a _ are. via 𝓤 _ (fst∗ 𝓤 _ (emp 𝓤)) (walk 𝓤 H A W at-mem run (a .0) (are .0) C Λ fm known))
 
-read-of-meets : {M : Type 1} (𝓤 : URA M) (H : Heap 𝓤) (A : Atoms 𝓤) → Given 𝓤 H A → (at-mem : Memory → SProp 𝓤)
-    (run : Routine → Fun 𝓤) (𝓣 : Tables 𝓤 H) → Triple 𝓤 (𝓣 .C #port·read) (Read 𝓤 H A at-mem run)
+read-of-meets : {M : Type 1} (𝓤 : URA M) (H : Heap 𝓤) (A : Atoms 𝓤) → Given 𝓤 H A
+    → (at-mem : Memory → SProp 𝓤) (run : Routine → Fun 𝓤) (𝓣 : Tables 𝓤 H) → Triple 𝓤 (𝓣 .C #port·read) (Read 𝓤 H A at-mem run)
     → Meets 𝓤 H A read-of.signature (WpFn 𝓤 H (𝓣 .C) (𝓣 .Λ) code.function) (read-of.spec 𝓤 H A at-mem run)
 read-of-meets 𝓤 H A W at-mem run 𝓣 known =
     walk-meets 𝓤 H A read-of.ended stayed W (goes-none 𝓤 H A W 0 (λ _. T.the-row) yes (λ κs x f. refl), tt)

@@ -1,5 +1,4 @@
 -- `write_e800` meets its contract.
-use mathlib.Core.Path.{sym, _∙_}
 use borrow.Author.Needs.{needs}
 use borrow.Author.Tests.{eq-eqb, ne-eqb}
 use Rattle.prg_registers.specs.Banks.{writeE800}
@@ -8,11 +7,11 @@ use Rattle.prg_registers.proofs.banks.write_e800.Tie as tie
 
 returns : tie.Need-returns
 unfolding writeE800
-returns c = rw (ne-eqb _ _ (λ e. c .if1 .taken (c .before .num .ensures .0 ∙ e)))
+returns c = rw (← c .before .num .ensures .0, ne-eqb _ _ (c .if1 .taken))
 
 returns-2 : tie.Need-returns-2
 unfolding writeE800
-returns-2 c = rw (eq-eqb _ _ (sym (c .before .before .num .ensures .0) ∙ c .before .if1 .left))
+returns-2 c = rw (← c .before .before .num .ensures .0, eq-eqb _ _ (c .before .if1 .left))
 
 pub write-e800-spec : {M : Type 1} → statement M
 write-e800-spec = tie.close (tie.spec (λ c. search needs) (λ c κs. search needs) returns returns-2)

@@ -1,5 +1,4 @@
 -- `write_f800` meets its contract.
-use mathlib.Core.Path.{sym, _∙_}
 use borrow.Author.Needs.{needs}
 use borrow.Author.Tests.{eq-eqb, ne-eqb}
 use Rattle.prg_registers.specs.Banks.{writeF800}
@@ -9,7 +8,7 @@ use Rattle.prg_registers.proofs.banks.write_f800.Tie as tie
 
 returns : tie.Need-returns
 unfolding writeF800
-returns c = rw (← c .before .before .maybe-set-board .ensures, ne-eqb _ _ (λ e. c .if1 .taken (c .before .num .ensures .0 ∙ e)))
+returns c = rw (← c .before .before .maybe-set-board .ensures, ← c .before .num .ensures .0, ne-eqb _ _ (c .if1 .taken))
 
 write-register-requires : tie.Need-write-register-requires
 write-register-requires c κs =
@@ -20,7 +19,7 @@ returns-2 : tie.Need-returns-2
 unfolding writeF800
 returns-2 c =
     let c3 = c .before .before .before in let c4 = c3 .before in let c5 = c4 .before in
-    rw (← c5 .maybe-set-board .ensures, eq-eqb _ _ (sym (c4 .num .ensures .0) ∙ c3 .if1 .left), c .write-register .ensures)
+    rw (← c5 .maybe-set-board .ensures, ← c4 .num .ensures .0, eq-eqb _ _ (c3 .if1 .left), c .write-register .ensures)
 
 pub write-f800-spec : {M : Type 1} → statement M
 write-f800-spec =

@@ -1,51 +1,31 @@
 -- `write_low` meets its contract, range by range.
-use native.Mathlib.Omega.{arith}
 use borrow.Author.Needs.{needs}
-use borrow.Author.Tests.{lt-ltb, le-ltb}
 use Rattle.registers.specs.Writes.{writeChip}
+use Rattle.chip.proofs.Ranges.{past, short}
 use Rattle.registers.proofs.writes.write_low.Statement.{statement}
 use Rattle.registers.proofs.writes.write_low.Tie as tie
 
 returns : tie.Need-returns
 unfolding writeChip
-returns c = rw (lt-ltb _ _ (c .if1 .taken))
+returns c = simp (short _ _ (c .if1 .taken))
 
 returns-2 : tie.Need-returns-2
 unfolding writeChip
-returns-2 c = let a = c .before .before .before .args .addr in
-    rw (le-ltb a 0x4800 (omega arith), lt-ltb a 0x5000 (omega arith), c .write-sound-data .ensures)
+returns-2 c = simp (past _ _ (c .before .before .if1 .left), short _ _ (c .before .if2 .taken), c .write-sound-data .ensures)
 
 returns-3 : tie.Need-returns-3
 unfolding writeChip
-returns-3 c = let a = c .before .before .before .before .args .addr in
-    rw (le-ltb a 0x4800 (omega arith), le-ltb a 0x5000 (omega arith), lt-ltb a 0x5800 (omega arith), c .write-counter-low .ensures)
+returns-3 c = simp (past _ _ (c .before .before .if2 .left), short _ _ (c .before .if3 .taken), c .write-counter-low .ensures)
 
 returns-4 : tie.Need-returns-4
 unfolding writeChip
-returns-4 c =
-    let c5 = c .before .before .before .before .before in
-    let a = c5 .args .addr in
-    rw (
-      le-ltb a 0x4800 (omega arith),
-      le-ltb a 0x5000 (omega arith),
-      le-ltb a 0x5800 (omega arith),
-      lt-ltb a 0x6000 (omega arith),
-      c .write-counter-high .ensures,
-    )
+returns-4 c = simp (past _ _ (c .before .before .if3 .left), short _ _ (c .before .if4 .taken), c .write-counter-high .ensures)
 
 returns-5 : tie.Need-returns-5
 unfolding writeChip
 returns-5 c =
-    let c5 = c .before .before .before .before .before in
-    let a = c5 .args .addr in
-    rw (
-      le-ltb a 0x4800 (omega arith),
-      le-ltb a 0x5000 (omega arith),
-      le-ltb a 0x5800 (omega arith),
-      le-ltb a 0x6000 (omega arith),
-      lt-ltb a 0x8000 (omega arith),
-      c .write-work-ram .ensures,
-    )
+    let c1 = c .before in let c5 = c1 .before .before .before .before in
+    simp (past _ _ (c1 .if4 .left), short _ _ (c5 .pre .0), c .write-work-ram .ensures)
 
 pub write-low-spec : {M : Type 1} → statement M
 write-low-spec =

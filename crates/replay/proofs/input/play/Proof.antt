@@ -1,5 +1,4 @@
 -- Each turn counts down.
-use Prim.Native.Nat.{_-_}
 use mathlib.Core.Path.{_≡_}
 use lib.ListN.{length}
 use borrow.Author.Needs.{needs}

@@ -16,23 +16,8 @@ Inv-loop outs c total₀ i₀ total i = (i ≤ 8) × (sumFrom total (drop i outs
 abbrev μ-loop : tie.MeasureT-loop
 μ-loop outs c total₀ i₀ total i = 8 - i
 
-sub-i : tie.Need-sub-i Inv-loop μ-loop
-sub-i c = omega arith
-
 loop-holds : tie.Need-loop-holds Inv-loop μ-loop
 loop-holds c = (omega arith, refl)
-
-mul-total : tie.Need-mul-total Inv-loop μ-loop
-mul-total c = omega arith
-
-element-copy-out-total : tie.Need-element-copy-out-total Inv-loop μ-loop
-element-copy-out-total c = omega arith
-
-add-i : tie.Need-add-i Inv-loop μ-loop
-add-i c = omega arith
-
-loop-less : tie.Need-loop-less Inv-loop μ-loop
-loop-less c = omega arith
 
 loop-again : tie.Need-loop-again Inv-loop μ-loop
 unfolding sumFrom
@@ -53,11 +38,11 @@ sum-spec =
     (tie.spec
     Inv-loop
     μ-loop
-    sub-i
+    (λ c. omega arith)  -- sub-i
     loop-holds
-    mul-total
-    element-copy-out-total
-    add-i
-    loop-less
+    (λ c. omega arith)  -- mul-total
+    (λ c. omega arith)  -- element-copy-out-total
+    (λ c. omega arith)  -- add-i
+    (λ c. omega arith)  -- loop-less
     loop-again
     returns)

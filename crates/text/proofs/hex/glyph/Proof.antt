@@ -1,5 +1,4 @@
 -- By the test.
-use Prim.Native.Nat.{_-_}
 use borrow.Author.Needs.{needs}
 use borrow.Author.Tests.{le-ltb, lt-ltb}
 use Rattle.text.proofs.hex.glyph.Statement.{statement}

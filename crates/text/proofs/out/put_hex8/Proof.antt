@@ -1,5 +1,5 @@
 -- Two digits, put one after the other.
-use Prim.Native.Nat.{_-_, _%_, _/_}
+use Prim.Native.Nat.{_%_, _/_}
 use mathlib.Core.Path.{sym, _∙_}
 use denote.Ref.{now}
 use borrow.Author.Needs.{needs}

@@ -1,5 +1,4 @@
 -- By the test.
-use Prim.Native.Nat.{_-_}
 use borrow.Author.Needs.{needs}
 use borrow.Author.Tests.{eq-eqb, ne-eqb}
 use Rattle.text.proofs.words.is_space.Statement.{statement}

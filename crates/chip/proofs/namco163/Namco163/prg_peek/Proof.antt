@@ -1,34 +1,31 @@
 -- `Namco163::prg_peek` meets its contract, range by range.
 use borrow.Author.Needs.{needs}
-use borrow.Author.Tests.{lt-ltb, le-ltb}
 use Rattle.chip.specs.Reads.{served}
+use Rattle.chip.proofs.Ranges.{past, short}
 use Rattle.chip.proofs.namco163.Namco163.prg_peek.Statement.{statement}
 use Rattle.chip.proofs.namco163.Namco163.prg_peek.Tie as tie
 
 returns : tie.Need-returns
 unfolding served
-returns c = rw (lt-ltb _ _ (c .if1 .taken))
+returns c = simp (short _ _ (c .if1 .taken))
 
 returns-2 : tie.Need-returns-2
 unfolding served
 returns-2 c =
-    rw (le-ltb _ _ (c .before .before .before .if1 .left), lt-ltb _ _ (c .before .before .if2 .taken), c .peek-register .ensures)
+    let c2 = c .before .before in
+    simp (past _ _ (c2 .before .if1 .left), short _ _ (c2 .if2 .taken), c .peek-register .ensures)
 
 returns-3 : tie.Need-returns-3
 unfolding served
-returns-3 c = rw (le-ltb _ _ (c .before .before .if1 .left), le-ltb _ _ (c .before .if2 .left), lt-ltb _ _ (c .if3 .taken))
+returns-3 c = simp (past _ _ (c .before .if2 .left), short _ _ (c .if3 .taken))
 
 returns-4 : tie.Need-returns-4
 unfolding served
-returns-4 c =
-    let c1 = c .before in let c2 = c1 .before in let c3 = c2 .before in
-    rw (le-ltb _ _ (c3 .if1 .left), le-ltb _ _ (c2 .if2 .left), le-ltb _ _ (c1 .if3 .left), lt-ltb _ _ (c .if4 .taken))
+returns-4 c = simp (past _ _ (c .before .if3 .left), short _ _ (c .if4 .taken))
 
 returns-5 : tie.Need-returns-5
 unfolding served
-returns-5 c =
-    let c1 = c .before in let c2 = c1 .before in let c3 = c2 .before in
-    rw (le-ltb _ _ (c3 .if1 .left), le-ltb _ _ (c2 .if2 .left), le-ltb _ _ (c1 .if3 .left), le-ltb _ _ (c .if4 .left))
+returns-5 c = simp (past _ _ (c .if4 .left))
 
 pub prg-peek-spec : {M : Type 1} → statement M
 prg-peek-spec =

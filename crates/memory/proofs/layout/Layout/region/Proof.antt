@@ -1,46 +1,45 @@
 -- Each place is the callee's, and the region lies in the arena.
-use Prim.Native.Nat.{_+_, _≤_, ℕ, _*_}
+use Prim.Native.Nat.{_+_, _≤_}
 use Rattle.memory.proofs.Laws.Layout.{region-le}
-use Rattle.memory.specs.declared.layout.Layout.{Layout}
 use Rattle.memory.specs.declared.layout.Region.{Region}
-use Rattle.memory.specs.declared.layout.Src.{Src}
-use Rattle.memory.specs.Layout.{GoodLayout, regionOf, firstPage, pagesBefore, arenaOrder}
+use Rattle.memory.specs.Layout.{regionOf, firstPage, pagesBefore, arenaOrder}
 use mathlib.Core.Path.{_≡_}
 use borrow.Author.Needs.{needs}
 use Rattle.memory.proofs.layout.Layout.region.Statement.{statement}
 use Rattle.memory.proofs.layout.Layout.region.Tie as tie
 
-bounded : {r : Region} {l : Layout} {used : ℕ} (s : Src) → (GoodLayout l) × (used ≤ 1024 * l .«battery_ext»)
-    → r ≡ regionOf l used s → (r ≡ regionOf l used s) × (r .start + r .len ≤ 858112)
-bounded {r} {l} {used} s g e = (e, rw e (region-le l used s (g .0) (g .1)))
+-- the definition's region, so one inside the largest arena
+bounded : (c : tie.Start) (r : Region) → r ≡ regionOf (c .args .self) (c .args .battery-ext-len) (c .args .src)
+    → (r ≡ regionOf (c .args .self) (c .args .battery-ext-len) (c .args .src)) × (r .start + r .len ≤ 858112)
+bounded c r e = (e, rw e (region-le _ _ _ (c .pre .0) (c .pre .1)))
 
 returns : tie.Need-returns
 unfolding regionOf firstPage pagesBefore arenaOrder
-returns c = bounded (c .before .before .before .args .src) (c .before .before .before .pre) (rw (c .before .enum-told .given .1))
+returns c = bounded (c .before .before .before) _ (rw (c .before .enum-told .given .1))
 
 returns-2 : tie.Need-returns-2
 unfolding regionOf
 returns-2 c =
     let c1 = c .before in let c2 = c1 .before in let c4 = c2 .before .before in
-    bounded (c4 .args .src) (c4 .pre) (rw (c2 .enum-told2 .given .1, c1 .ram-page .ensures .0))
+    bounded c4 _ (rw (c2 .enum-told2 .given .1, c1 .ram-page .ensures .0))
 
 returns-3 : tie.Need-returns-3
 unfolding regionOf
 returns-3 c =
     let c1 = c .before in let c3 = c1 .before .before in
-    bounded (c3 .args .src) (c3 .pre) (rw (c1 .enum-told3 .given .1, c .battery-page .ensures .0))
+    bounded c3 _ (rw (c1 .enum-told3 .given .1, c .battery-page .ensures .0))
 
 returns-4 : tie.Need-returns-4
 unfolding regionOf
 returns-4 c =
     let c1 = c .before in let c2 = c1 .before in let c4 = c2 .before .before in
-    bounded (c4 .args .src) (c4 .pre) (rw (c2 .enum-told4 .given .1, c1 .chr-page .ensures .0))
+    bounded c4 _ (rw (c2 .enum-told4 .given .1, c1 .chr-page .ensures .0))
 
 returns-5 : tie.Need-returns-5
 unfolding regionOf
 returns-5 c =
     let c1 = c .before in let c2 = c1 .before in let c4 = c2 .before .before in
-    bounded (c4 .args .src) (c4 .pre) (rw (c2 .enum-told5 .given .1, c1 .ciram-page .ensures .0))
+    bounded c4 _ (rw (c2 .enum-told5 .given .1, c1 .ciram-page .ensures .0))
 
 pub region-spec : {M : Type 1} → statement M
 region-spec =

@@ -2,7 +2,8 @@
 use borrow.Author.Needs.{needs}
 use Rattle.sound.specs.Clock.{updateChannel}
 use Rattle.sound.proofs.audio.Typed.{typed}
-use Rattle.sound.proofs.Range.{with-range, update-range}
+use Rattle.sound.proofs.Range.Audio.{with-range}
+use Rattle.sound.proofs.Range.Clock.{update-range}
 use Rattle.sound.proofs.audio.Audio.update_channel.Statement.{statement}
 use Rattle.sound.proofs.audio.Audio.update_channel.Tie as tie
 
@@ -12,8 +13,9 @@ next-phase-requires c κs = (search needs, c .before .before .before .before .pr
 returns : tie.Need-returns
 unfolding updateChannel
 returns c =
-    let s = c .before .before .before .before .before .before .before .before .before .before .before .before .before .before .before in
-    with-range _ _ (cc) (update-range (s .args .t1) (typed _ _ (s .good .0)) (s .pre))
+    let c7 = c .before .before .before .before .before .before .before in
+    let c15 = c7 .before .before .before .before .before .before .before .before in
+    with-range _ _ (cc) (update-range (c15 .args .t1) (typed _ _ (c15 .good .0)) (c15 .pre))
 
 pub update-channel-spec : {M : Type 1} → statement M
 update-channel-spec =

@@ -1,0 +1,10 @@
+-- The page tables as they are written, eight entries at a time: eight entries of 11 bits are 11 bytes.
+use Prim.Native.Nat.{ℕ, _<_}
+use mathlib.Core.List.{List}
+use lib.ListN.{getD}
+use Rattle.memory.specs.declared.page.Page.{Page}
+use Rattle.memory.specs.Page.{offsetOf, unmapped}
+
+-- "(page number 10, writable 1)": the page numbers of a table's n entries have 10 bits
+abbrev pub PagesFit : ℕ → List Page → Type 0
+PagesFit n pages = (i : ℕ) → i < n → offsetOf (getD pages i unmapped) < 1048576

@@ -1,0 +1,11 @@
+-- `board_of` meets its contract.
+use Rattle.image_read.proofs.Fields.{board-else}
+use borrow.Author.Needs.{needs}
+use Rattle.image_read.proofs.words.board_of.Statement.{statement}
+use Rattle.image_read.proofs.words.board_of.Tie as tie
+
+returns-4 : tie.Need-returns-4
+returns-4 c = board-else (c .before .before .before .args .n) (c .before .before .if1 .left) (c .before .if2 .left) (c .if3 .left)
+
+pub board-of-spec : {M : Type 1} → statement M
+board-of-spec = tie.close (tie.spec (λ c. search needs) (λ c. search needs) (λ c. search needs) returns-4)
