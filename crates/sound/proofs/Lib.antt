@@ -1,4 +1,3 @@
 pub mod Floats
 pub mod Range
-pub mod Wiki
 pub mod Cases

@@ -5,5 +5,4 @@ pub mod Mix
 pub mod Clock
 pub mod Run
 pub mod Range
-pub mod Wiki
 pub mod Cases

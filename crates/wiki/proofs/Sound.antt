@@ -13,19 +13,19 @@ use lib.ListN.{getD, set, length, drop, length-set}
 use lib.Seq.{getD-set-same, getD-set-other, drop-set-lt}
 use lib.IntN.{pos, negℤ, _+ℤ_, +ℤ-comm, +ℤ-negℤ-cancel}
 use lib.Ieee.{Float, binary32, round}
 use Rattle.sound.specs.declared.audio.Audio.{Audio}
 use Rattle.sound.specs.Audio.{withRam, withAddr}
 use Rattle.sound.specs.Registers.{peeked, advanced, readOf, written}
 use Rattle.sound.specs.Channel.{channelCount, baseAddr, frequencyAt, waveLengthAt, waveAddressAt, volumeAt, nibbleAt, nextPhase, levelOf, levelAt}
 use Rattle.sound.specs.Mix.{whole, total, sumOf, mixOf}
 use Rattle.sound.specs.Clock.{nextChannel, updateChannel}
 use Rattle.sound.specs.Run.{samplesOf}
 use Rattle.sound.specs.Range.{Typed, InRange}
-use Rattle.sound.specs.Wiki.{wikiAddress, wikiAuto, wikiAdvance, wikiBase, wikiFrequency, wikiPhase, wikiStored, wikiLength, wikiWaveAddress, wikiVolume, wikiSample, wikiNextPhase, wikiPlace, wikiLevel, wikiOutput, wikiCount, wikiEnabled, wikiSum, wikiTurn, wikiUpdates, NoPhase, Holds}
+use Rattle.wiki.specs.Sound.{wikiAddress, wikiAuto, wikiAdvance, wikiBase, wikiFrequency, wikiPhase, wikiStored, wikiLength, wikiWaveAddress, wikiVolume, wikiSample, wikiNextPhase, wikiPlace, wikiLevel, wikiOutput, wikiCount, wikiEnabled, wikiSum, wikiTurn, wikiUpdates, NoPhase, Holds}
 use Rattle.sound.proofs.Range.Channel.{next-phase-small}
 use Rattle.sound.proofs.mix.Laws.{mix-rounds}
 use Rattle.sound.proofs.registers.Laws.{inside, past}
 use Rattle.sound.proofs.run.Laws.{made-closed}
 
 -- ---- the registers of a channel
 
