@@ -1,37 +1,27 @@
 -- Refused by the image, or on to the call on its state.
-use Prim.Native.Nat.{ℕ, _≤_}
+use Prim.Native.Nat.{ℕ}
 use mathlib.Core.Path.{_≡_, refl, sym, ap, _∙_}
 use mathlib.Core.Bool.{Bool, true, false}
 use mathlib.Core.List.{List, _∷_}
-use native.Mathlib.Omega.{arith}
-use borrow.Author.Tests.{le-ltb, eq-eqb, ne-eqb, eqb-true}
+use borrow.Author.Tests.{eq-eqb, ne-eqb, eqb-true}
 use lib.Dec.{eqb, leb}
 use lib.ListN.{length, getD}
 use Rattle.memory.specs.declared.layout.MemoryLayout.{MemoryLayout}
-use Rattle.chip.specs.Reads.{afterRead}
 use Rattle.state.specs.declared.State.{State}
 use Rattle.state.specs.State.{inRange}
 use Rattle.state.proofs.Every.{and-right}
-use Rattle.refusals.specs.Refusals.{Check, firstOf, stateCheck, cpuChecks, loadChecks}
-use Rattle.namco163.specs.Calls.{cpuRead}
+use Rattle.refusals.specs.Refusals.{Check, firstOf, stateCheck, loadChecks}
 use Rattle.cartridge.specs.Cartridge.{freshState, loadAnswer}
 use Rattle.refusals.proofs.Laws.{first-done}
-use Rattle.image.specs.Image.{imageBytes, imageOf, part, partWidths}
-use Rattle.image.specs.Writing.{imageCheck, writeRefusal, writtenImage}
+use Rattle.image.specs.Image.{imageBytes, part, partWidths}
+use Rattle.image.specs.Writing.{imageCheck}
 use Rattle.image_read.specs.declared.reading.ReadImage.{ReadImage}
 use Rattle.image_read.specs.Reading.{cutInto, stateOf, fieldsOk, fieldsOf, readChecks, readImage}
 use Rattle.image_read.proofs.RoundTrip.{accepted-in-range}
 use Rattle.image_read.proofs.Accepted.{accepted}
-use Rattle.host.specs.Host.{Gives, unlessRefused, onImage, stateIn}
-
--- ---- a refused call, and an accepted one
-
-refused-gives : (cs : List Check) (img lent : List ℕ) (g : Gives) → (firstOf cs ≡ 0 → ⊥)
-    → unlessRefused cs img lent g ≡ record { word = firstOf cs; image = img; lent = lent }
-refused-gives cs img lent g h = rw (ne-eqb (firstOf cs) 0 h)
-
-pub accepted-gives : (cs : List Check) (img lent : List ℕ) (g : Gives) → firstOf cs ≡ 0 → unlessRefused cs img lent g ≡ g
-accepted-gives cs img lent g e = rw e
+use Rattle.host_state.specs.HostState.{Gives, unlessRefused}
+use Rattle.host_state.proofs.Laws.{refused-gives}
+use Rattle.host.specs.Host.{onImage, stateIn}
 
 -- ---- the image
 
@@ -94,39 +84,6 @@ on-image img lent own g r is =
           ∙ sym (onward img (own (stateIn img)) lent (g (stateIn img)) (sym q ∙ z));
     }
 
--- ---- the image of a state in range
-
-pub written-in-range : (s : State) (img : List ℕ) → length img ≡ imageBytes → inRange s ≡ true → writtenImage s img ≡ imageOf s
-unfolding writtenImage writeRefusal firstOf
-written-in-range s img l e = rw (eq-eqb (length img) imageBytes l, e)
-
--- ---- a call on a state, by the number q that it answered
-
-pub record Called (cs : List Check) (img lent : List ℕ) (g : Gives) (q : ℕ) : Type 0 where
-  pub none : q ≡ 0 → firstOf cs ≡ 0
-  pub some : (q ≡ 0 → ⊥) → firstOf cs ≡ 0 → ⊥
-  pub refused : (q ≡ 0 → ⊥) → record { word = q; image = img; lent = lent } ≡ unlessRefused cs img lent g
-  pub accepted : q ≡ 0 → g ≡ unlessRefused cs img lent g
-
-pub called : (cs : List Check) (img lent : List ℕ) (g : Gives) (q : ℕ) → q ≡ firstOf cs → Called cs img lent g q
-called cs img lent g q is =
-    record {
-      none = λ z. sym is ∙ z;
-      some = λ h e. h (is ∙ e);
-      refused = λ h. ap (λ (x : ℕ). record { word = x; image = img; lent = lent }) is
-          ∙ sym (refused-gives cs img lent g (λ e. h (is ∙ e)));
-      accepted = λ z. sym (accepted-gives cs img lent g (sym is ∙ z));
-    }
-
-abbrev pub word-of : {a b : Gives} → a ≡ b → a .word ≡ b .word
-word-of e = ap (λ (g : Gives). g .word) e
-
-abbrev pub image-of : {a b : Gives} → a ≡ b → a .image ≡ b .image
-image-of e = ap (λ (g : Gives). g .image) e
-
-abbrev pub lent-of : {a b : Gives} → a ≡ b → a .lent ≡ b .lent
-lent-of e = ap (λ (g : Gives). g .lent) e
-
 -- ---- an image that is only written
 
 pub not-307 : (img : List ℕ) (cs : List Check) (lent : List ℕ) (g : Gives) → (length img ≡ imageBytes → ⊥)
@@ -142,10 +99,3 @@ pub load-state : (mapper sub flags : ℕ) (known : Bool) (sizes : MemoryLayout) 
     → loadAnswer mapper sub flags known sizes len .state ≡ freshState mapper sub flags known sizes
 unfolding loadAnswer
 load-state mapper sub flags known sizes len e = rw e
-
--- ---- a read outside the sound port
-
-pub still-read : (s : State) (arena : List ℕ) (addr : ℕ) → 0x5000 ≤ addr → firstOf (cpuChecks s (length arena) addr) ≡ 0
-    → cpuRead s arena addr .state ≡ s
-unfolding cpuRead afterRead
-still-read s arena addr h e = rw (e, le-ltb addr 0x4800 (omega arith), le-ltb addr 0x5000 h)

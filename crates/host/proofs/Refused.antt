@@ -8,7 +8,8 @@ use Rattle.memory.specs.declared.layout.MemoryLayout.{MemoryLayout}
 use Rattle.refusals.specs.Refusals.{kindCheck, loadChecks}
 use Rattle.image.specs.Writing.{imageCheck}
 use Rattle.range.proofs.Decided.{Decided, decided}
-use Rattle.host.specs.Host.{onImage, stateIn, cpuOwn, runOwn}
+use Rattle.host_state.specs.HostState.{runOwn}
+use Rattle.host.specs.Host.{onImage, stateIn, cpuOwn}
 
 -- 1, 4, 5, 6, 7
 pub load-decided : (img arena : List ℕ) (mapper : ℕ) (sizes : MemoryLayout)

@@ -29,9 +29,11 @@ use Rattle.image_read.specs.Reading.{pagesOf, cutInto, stateFrom, stateOf, fiel
 use Rattle.image_read.proofs.Parts.{fit-cut}
 use Rattle.clocks.specs.Run.{clocks, made}
 use Rattle.range.proofs.Calls.{cpu-write-mask}
-use Rattle.host.specs.Host.{Gives, unlessRefused, onImage, stateIn, hostLoad, hostReset, cpuOwn, readGives, hostRead, writeGives, hostWrite, runOwn, runGives, hostRun}
-use Rattle.host.proofs.Laws.{accepted-gives, fields-range}
-use Rattle.host.proofs.samples.Laws.{made-most}
+use Rattle.host_state.specs.HostState.{Gives, unlessRefused, readGives, writeGives, runOwn, runGives}
+use Rattle.host.specs.Host.{onImage, stateIn, hostLoad, hostReset, cpuOwn, hostRead, hostWrite, hostRun}
+use Rattle.host_state.proofs.Laws.{accepted-gives}
+use Rattle.host.proofs.Laws.{fields-range}
+use Rattle.host_state.proofs.samples.Laws.{made-most}
 
 -- ---- the refusal, in bits 0..7
 

@@ -10,7 +10,8 @@ use Rattle.image.specs.Writing.{imageCheck, writtenImage}
 use Rattle.range.proofs.Refused.{load-number, load-refused}
 use Rattle.range.proofs.Calls.{load-fits}
 use Rattle.host.specs.Host.{yes, sizesOf, loadGives, hostLoad}
-use Rattle.host.proofs.Laws.{not-307, is-307, Called, called, word-of, image-of, lent-of, written-in-range, load-state}
+use Rattle.host_state.proofs.Laws.{Called, called, word-of, image-of, lent-of, written-in-range}
+use Rattle.host.proofs.Laws.{not-307, is-307, load-state}
 use Rattle.host.proofs.namco163_load.Statement.{statement}
 use Rattle.host.proofs.namco163_load.Tie as tie
 

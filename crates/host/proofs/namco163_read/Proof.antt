@@ -6,8 +6,10 @@ use Rattle.image.specs.Image.{imageOf}
 use Rattle.image_read.specs.declared.reading.ReadImage.{ReadImage}
 use Rattle.image_read.proofs.RoundTrip.{written-read}
 use Rattle.state.specs.declared.State.{State}
-use Rattle.host.specs.Host.{cpuOwn, readGives, readOn, hostRead}
-use Rattle.host.proofs.Laws.{OnImage, on-image, word-of, image-of}
+use Rattle.host_state.specs.HostState.{readGives, readOn}
+use Rattle.host.specs.Host.{cpuOwn, hostRead}
+use Rattle.host_state.proofs.Laws.{word-of, image-of}
+use Rattle.host.proofs.Laws.{OnImage, on-image}
 use Rattle.host.proofs.namco163_read.Statement.{statement}
 use Rattle.host.proofs.namco163_read.Tie as tie
 

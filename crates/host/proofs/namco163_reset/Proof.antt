@@ -4,8 +4,10 @@ use mathlib.Core.List.{[], _∷_}
 use borrow.Author.Needs.{needs}
 use Rattle.state.specs.declared.State.{State}
 use Rattle.refusals.specs.Refusals.{kindCheck}
-use Rattle.host.specs.Host.{resetGives, resetOn, hostReset}
-use Rattle.host.proofs.Laws.{OnImage, on-image, word-of, image-of}
+use Rattle.host_state.specs.HostState.{resetGives, resetOn}
+use Rattle.host.specs.Host.{hostReset}
+use Rattle.host_state.proofs.Laws.{word-of, image-of}
+use Rattle.host.proofs.Laws.{OnImage, on-image}
 use Rattle.host.proofs.namco163_reset.Statement.{statement}
 use Rattle.host.proofs.namco163_reset.Tie as tie
 

@@ -2,8 +2,10 @@
 use mathlib.Core.Path.{_∙_}
 use borrow.Author.Needs.{needs}
 use Rattle.state.specs.declared.State.{State}
-use Rattle.host.specs.Host.{cpuOwn, writeGives, writeOn, hostWrite}
-use Rattle.host.proofs.Laws.{OnImage, on-image, word-of, image-of, lent-of}
+use Rattle.host_state.specs.HostState.{writeGives, writeOn}
+use Rattle.host.specs.Host.{cpuOwn, hostWrite}
+use Rattle.host_state.proofs.Laws.{word-of, image-of, lent-of}
+use Rattle.host.proofs.Laws.{OnImage, on-image}
 use Rattle.host.proofs.namco163_write.Statement.{statement}
 use Rattle.host.proofs.namco163_write.Tie as tie
 

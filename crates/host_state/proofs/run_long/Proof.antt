@@ -1,8 +1,8 @@
 -- `run_long` meets its contract: its buffer holds the run.
 use borrow.Author.Needs.{needs}
-use Rattle.host.proofs.samples.Laws.{made-most}
-use Rattle.host.proofs.run_long.Statement.{statement}
-use Rattle.host.proofs.run_long.Tie as tie
+use Rattle.host_state.proofs.samples.Laws.{made-most}
+use Rattle.host_state.proofs.run_long.Statement.{statement}
+use Rattle.host_state.proofs.run_long.Tie as tie
 
 run-through-requires : tie.Need-run-through-requires
 run-through-requires c κs =

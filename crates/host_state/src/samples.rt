@@ -13,7 +13,7 @@ ghost use lib.Seq.{sets};
 ghost use Rattle.bits.specs.Fields.{each};
 ghost use Rattle.state.specs.State.{inRange};
 ghost use Rattle.clocks.specs.Run.{ranOf};
-ghost use Rattle.host.specs.Host.{sampleBytes, runIn, HoldsRun};
+ghost use Rattle.host_state.specs.HostState.{sampleBytes, runIn, HoldsRun};
 
 // As many samples as a run can make: 65,536 clocks from an update counter of 14.
 pub const MOST: usize = 4_370;

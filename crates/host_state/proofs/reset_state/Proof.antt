@@ -9,10 +9,10 @@ use Rattle.image.specs.Writing.{writtenImage}
 use Rattle.range.proofs.Refused.{reset-number}
 use Rattle.range.proofs.Calls.{reset-keeps}
 use Rattle.range.proofs.Types.{typed-state}
-use Rattle.host.specs.Host.{resetGives}
-use Rattle.host.proofs.Laws.{Called, called, word-of, image-of, written-in-range}
-use Rattle.host.proofs.reset_state.Statement.{statement}
-use Rattle.host.proofs.reset_state.Tie as tie
+use Rattle.host_state.specs.HostState.{resetGives}
+use Rattle.host_state.proofs.Laws.{Called, called, word-of, image-of, written-in-range}
+use Rattle.host_state.proofs.reset_state.Statement.{statement}
+use Rattle.host_state.proofs.reset_state.Tie as tie
 
 call : (c : tie.After-reset) → let a = c .before .before .args in
     Called (resetChecks (a .s) (a .kind)) (a .image .now) [] (resetGives (a .s) (a .kind)) (c .reset .result .refusal)

@@ -11,10 +11,10 @@ use Rattle.state.specs.State.{inRange}
 use Rattle.range.proofs.Refused.{cpu-write-number, cpu-write-refused}
 use Rattle.range.proofs.Calls.{cpu-write-keeps, cpu-write-mask}
 use Rattle.range.proofs.Types.{typed-state}
-use Rattle.host.specs.Host.{writeGives}
-use Rattle.host.proofs.Laws.{Called, called, word-of, image-of, lent-of}
-use Rattle.host.proofs.write_state.Statement.{statement}
-use Rattle.host.proofs.write_state.Tie as tie
+use Rattle.host_state.specs.HostState.{writeGives}
+use Rattle.host_state.proofs.Laws.{Called, called, word-of, image-of, lent-of}
+use Rattle.host_state.proofs.write_state.Statement.{statement}
+use Rattle.host_state.proofs.write_state.Tie as tie
 
 cpu-write-of-requires : tie.Need-cpu-write-of-requires
 cpu-write-of-requires c κs = sym (c .before .before .before .pre .1)

@@ -14,11 +14,11 @@ use Rattle.clocks.specs.declared.run.Ran.{Ran}
 use Rattle.clocks.specs.Run.{clocks}
 use Rattle.range.proofs.Types.{typed-state}
 use Rattle.range.proofs.Runs.{clocks-keep}
-use Rattle.host.specs.Host.{runOwn, runGives, sampleBytes}
-use Rattle.host.proofs.Laws.{Called, called, word-of, image-of, lent-of}
-use Rattle.host.proofs.samples.Laws.{run-number, Ended, ended, samples-numbers, first-are}
-use Rattle.host.proofs.run_through.Statement.{statement}
-use Rattle.host.proofs.run_through.Tie as tie
+use Rattle.host_state.specs.HostState.{runOwn, runGives, sampleBytes}
+use Rattle.host_state.proofs.Laws.{Called, called, word-of, image-of, lent-of}
+use Rattle.host_state.proofs.samples.Laws.{run-number, Ended, ended, samples-numbers, first-are}
+use Rattle.host_state.proofs.run_through.Statement.{statement}
+use Rattle.host_state.proofs.run_through.Tie as tie
 
 call : (c : tie.After-run-into) → let a = c .before .before .before .before .before .args in let bytes = a .samples .now in
     Called (stateCheck (a .s) ∷ runOwn (a .s) bytes (a .n)) (a .image .now) bytes (runGives (a .s) bytes (a .n))

@@ -10,9 +10,9 @@ use Rattle.cut.specs.Contract.{runBy}
 use Rattle.refusals.specs.Refusals.{firstOf}
 use Rattle.clocks.specs.Run.{clocks, runChecks, runGave, ranOf}
 use Rattle.clocks.proofs.run.Laws.{run-good}
-use Rattle.host.proofs.samples.Laws.{room-enough, answer-alone, whole-buffer}
-use Rattle.host.proofs.samples.run_into.Statement.{statement}
-use Rattle.host.proofs.samples.run_into.Tie as tie
+use Rattle.host_state.proofs.samples.Laws.{room-enough, answer-alone, whole-buffer}
+use Rattle.host_state.proofs.samples.run_into.Statement.{statement}
+use Rattle.host_state.proofs.samples.run_into.Tie as tie
 
 slice-aggregate-run-of : tie.Need-slice-aggregate-run-of
 slice-aggregate-run-of c =

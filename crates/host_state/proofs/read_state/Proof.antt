@@ -10,10 +10,10 @@ use Rattle.state.specs.State.{inRange}
 use Rattle.range.proofs.Refused.{cpu-read-number}
 use Rattle.range.proofs.Calls.{cpu-read-keeps}
 use Rattle.range.proofs.Types.{typed-state}
-use Rattle.host.specs.Host.{readGives}
-use Rattle.host.proofs.Laws.{Called, called, word-of, image-of, still-read}
-use Rattle.host.proofs.read_state.Statement.{statement}
-use Rattle.host.proofs.read_state.Tie as tie
+use Rattle.host_state.specs.HostState.{readGives}
+use Rattle.host_state.proofs.Laws.{Called, called, word-of, image-of, still-read}
+use Rattle.host_state.proofs.read_state.Statement.{statement}
+use Rattle.host_state.proofs.read_state.Tie as tie
 
 cpu-read-of-requires : tie.Need-cpu-read-of-requires
 cpu-read-of-requires c κs = sym (c .before .before .pre .2)

@@ -27,7 +27,7 @@ use Rattle.state.proofs.StateRange.{counter-small}
 use Rattle.clocks.proofs.run.Laws.{run-good, made-floor, sounds-samples, silent-samples}
 use Rattle.range.specs.Typed.{Typed}
 use Rattle.range.proofs.State.{state-in}
-use Rattle.host.specs.Host.{sampleBytes, runIn, HoldsRun}
+use Rattle.host_state.specs.HostState.{sampleBytes, runIn, HoldsRun}
 
 -- ---- bytes
 

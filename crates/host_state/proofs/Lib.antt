@@ -1,0 +1,2 @@
+-- Laws and samples/Laws are what the proofs of src/ rest on.
+pub mod Laws

@@ -1,0 +1,120 @@
+// The host's calls on a state: the answer's word, and the image of the state after it.
+pub mod samples; // samples.rt: a run's samples as bytes
+
+use crate::samples::FEW;
+use crate::samples::MOST;
+use crate::samples::put_samples;
+use crate::samples::run_into;
+use battery::reset;
+use image::writing::put_state;
+use image::writing::write_image;
+use namco163::calls::cpu_read_of;
+use namco163::calls::cpu_write_of;
+use state::State;
+ghost use mathlib.Core.Path.{_≡_};
+ghost use mathlib.Core.Bool.{true};
+ghost use Prim.Native.Nat.{_≤_};
+ghost use lib.ListN.{length};
+ghost use Rattle.state.specs.State.{inRange};
+ghost use Rattle.image.specs.Image.{imageBytes, imageOf};
+ghost use Rattle.host_state.specs.HostState.{resetOn, readOn, writeOn, HoldsRun, runOn};
+
+// A reset of a state, and its image.
+pub fn reset_state(s: State, kind: u64, image: &mut [u8]) -> u64
+    requires { ⌜ length (now image) ≡ imageBytes ⌝ }
+    ensures { λ r. ⌜ r ≡ resetOn s (now (image .entry)) kind .word ⌝ }
+    ensures { λ r. ⌜ now (image .exit) ≡ resetOn s (now (image .entry)) kind .image ⌝ }
+{
+    let altered = reset(s, kind);
+    if altered.refusal != 0 {
+        return altered.refusal as u64;
+    }
+    let after = altered.state;
+    write_image(after, image);
+    0
+}
+
+// A CPU read on the image's state, and the image of the state after it. Only the sound port at 4800..4FFF changes the state.
+pub fn read_state(s: State, arena: &[u8], addr: u16, image: &mut [u8]) -> u64
+    requires { ⌜ (length (now image) ≡ imageBytes) × (now image ≡ imageOf s) × (inRange s ≡ true) ⌝ }
+    ensures { λ r. ⌜ r ≡ readOn s (now (image .entry)) (now (arena .entry)) addr .word ⌝ }
+    ensures { λ r. ⌜ now (image .exit) ≡ readOn s (now (image .entry)) (now (arena .entry)) addr .image ⌝ }
+{
+    let got = cpu_read_of(true, s, arena, addr);
+    if got.refusal != 0 {
+        return got.refusal as u64;
+    }
+    let word = (got.byte as u64) * 256;
+    if 0x5000 <= addr {
+        return word;
+    }
+    let moved = got.state;
+    put_state(image, moved);
+    word
+}
+
+// A CPU write on a state, and the image of the state after it.
+pub fn write_state(s: State, arena: &mut [u8], addr: u16, val: u8, image: &mut [u8]) -> u64
+    requires { ⌜ (length (now image) ≡ imageBytes) × (inRange s ≡ true) ⌝ }
+    ensures { λ r. ⌜ r ≡ writeOn s (now (image .entry)) (now (arena .entry)) addr val .word ⌝ }
+    ensures { λ r. ⌜ now (image .exit) ≡ writeOn s (now (image .entry)) (now (arena .entry)) addr val .image ⌝ }
+    ensures { λ r. ⌜ now (arena .exit) ≡ writeOn s (now (image .entry)) (now (arena .entry)) addr val .lent ⌝ }
+{
+    let written = cpu_write_of(true, s, arena, addr, val);
+    if written.refusal != 0 {
+        return written.refusal as u64;
+    }
+    let next = written.state;
+    put_state(image, next);
+    (written.changed.chr.mask as u64) * 256 + written.changed.prg.mask
+}
+
+// A run from a state by way of a buffer that holds what it makes, and the image of the state after it.
+fn run_through(s: State, n: u64, samples: &mut [u8], image: &mut [u8], buf: &mut [f32]) -> u64
+    requires { ⌜ (length (now image) ≡ imageBytes) × (inRange s ≡ true) × HoldsRun s n (length (now buf)) ⌝ }
+    ensures { λ r. ⌜ r ≡ runOn s (now (image .entry)) (now (samples .entry)) n .word ⌝ }
+    ensures { λ r. ⌜ now (image .exit) ≡ runOn s (now (image .entry)) (now (samples .entry)) n .image ⌝ }
+    ensures { λ r. ⌜ now (samples .exit) ≡ runOn s (now (image .entry)) (now (samples .entry)) n .lent ⌝ }
+{
+    let ran = run_into(s, n, samples.len() / 4, buf);
+    if ran.refusal != 0 {
+        return ran.refusal as u64;
+    }
+    put_samples(buf, ran.made, samples);
+    let last = ran.state;
+    put_state(image, last);
+    (ran.made as u64) * 256 + (ran.rise as u64) * 4_294_967_296
+}
+
+// Of at most 1,920 clocks: a small buffer, since it is cleared first.
+fn run_short(s: State, n: u64, samples: &mut [u8], image: &mut [u8]) -> u64
+    requires { ⌜ (length (now image) ≡ imageBytes) × (inRange s ≡ true) × (n ≤ 1920) ⌝ }
+    ensures { λ r. ⌜ r ≡ runOn s (now (image .entry)) (now (samples .entry)) n .word ⌝ }
+    ensures { λ r. ⌜ now (image .exit) ≡ runOn s (now (image .entry)) (now (samples .entry)) n .image ⌝ }
+    ensures { λ r. ⌜ now (samples .exit) ≡ runOn s (now (image .entry)) (now (samples .entry)) n .lent ⌝ }
+{
+    let mut buf = [0.0f32; FEW];
+    run_through(s, n, samples, image, &mut buf)
+}
+
+fn run_long(s: State, n: u64, samples: &mut [u8], image: &mut [u8]) -> u64
+    requires { ⌜ (length (now image) ≡ imageBytes) × (inRange s ≡ true) ⌝ }
+    ensures { λ r. ⌜ r ≡ runOn s (now (image .entry)) (now (samples .entry)) n .word ⌝ }
+    ensures { λ r. ⌜ now (image .exit) ≡ runOn s (now (image .entry)) (now (samples .entry)) n .image ⌝ }
+    ensures { λ r. ⌜ now (samples .exit) ≡ runOn s (now (image .entry)) (now (samples .entry)) n .lent ⌝ }
+{
+    let mut buf = [0.0f32; MOST];
+    run_through(s, n, samples, image, &mut buf)
+}
+
+pub fn run_state(s: State, n: u64, samples: &mut [u8], image: &mut [u8]) -> u64
+    requires { ⌜ (length (now image) ≡ imageBytes) × (inRange s ≡ true) ⌝ }
+    ensures { λ r. ⌜ r ≡ runOn s (now (image .entry)) (now (samples .entry)) n .word ⌝ }
+    ensures { λ r. ⌜ now (image .exit) ≡ runOn s (now (image .entry)) (now (samples .entry)) n .image ⌝ }
+    ensures { λ r. ⌜ now (samples .exit) ≡ runOn s (now (image .entry)) (now (samples .entry)) n .lent ⌝ }
+{
+    if n <= 1_920 {
+        return run_short(s, n, samples, image);
+    }
+    run_long(s, n, samples, image)
+}
