@@ -9,9 +9,17 @@ use Rattle.image_read.proofs.pages.eight_of.Tie as tie
 returns : tie.Need-returns
 returns c =
     let c1 = c .before in let c2 = c1 .before in let c3 = c2 .before in let c4 = c3 .before in let c5 = c4 .before in
-    let c6 = c5 .before in let c7 = c6 .before in let c8 = c7 .before in
-    let s = c8 in (
-      (λ j. c7 .page-of .ensures j ∷ c6 .page-of2 .ensures j ∷ c5 .page-of3 .ensures j ∷ c4 .page-of4 .ensures j ∷ c3 .page-of5 .ensures j ∷ c2 .page-of6 .ensures j ∷ c1 .page-of7 .ensures j ∷ c .page-of8 .ensures j ∷ []) ∙ eight-pages (s .args .w) (s .pre .0) (s .pre .1),
+    let c6 = c5 .before in let c7 = c6 .before in let c8 = c7 .before in (
+      (λ j. c7 .page-of .ensures j
+          ∷ c6 .page-of2 .ensures j
+          ∷ c5 .page-of3 .ensures j
+          ∷ c4 .page-of4 .ensures j
+          ∷ c3 .page-of5 .ensures j
+          ∷ c2 .page-of6 .ensures j
+          ∷ c1 .page-of7 .ensures j
+          ∷ c .page-of8 .ensures j
+          ∷ [])
+          ∙ eight-pages (c8 .args .w) (c8 .pre .0) (c8 .pre .1),
       refl,
     )
 
