@@ -13,7 +13,8 @@ use Rattle.cut.specs.Machine.{tick, ticks, otherOf}
 use Rattle.cut.specs.Contract.{runBy, runOf, Keeps}
 use Rattle.state.specs.declared.State.{State}
 use Rattle.refusals.specs.Refusals.{firstOf}
-use Rattle.namco163.specs.Calls.{cpuRead as cpuReadGives, cpuPeek as cpuPeekGives, cpuWrite as cpuWriteGives, cpuWriteArena, chrRead as chrReadGives, chrWriteArena, fillArena, regionRead, regionWriteArena, sramAnswer}
+use Rattle.namco163.specs.Calls.{cpuRead as cpuReadGives, cpuPeek as cpuPeekGives, cpuWrite as cpuWriteGives, cpuWriteArena}
+use Rattle.regions.specs.Regions.{chrRead as chrReadGives, chrWriteArena, fillArena, regionRead, regionWriteArena, sramAnswer}
 use Rattle.battery.specs.Battery.{resetState, syncArena, restoreState}
 use Rattle.image.specs.Writing.{writeRefusal, writtenImage}
 use Rattle.clocks.specs.Clock.{stateClock}

@@ -6,7 +6,8 @@ use lib.ListN.{length}
 use Rattle.cut.specs.Calls.{RunGave, Reply, refused, answered, Gave, Board}
 use Rattle.state.specs.declared.State.{State}
 use Rattle.refusals.specs.Refusals.{firstOf, arenaChecks, fillChecks, batteryChecks}
-use Rattle.namco163.specs.Calls.{cpuRead as cpuReadGives, cpuPeek as cpuPeekGives, cpuWrite as cpuWriteGives, cpuWriteArena, chrRead as chrReadGives, chrWriteArena, fillArena, regionRead, regionWriteArena, sramAnswer}
+use Rattle.namco163.specs.Calls.{cpuRead as cpuReadGives, cpuPeek as cpuPeekGives, cpuWrite as cpuWriteGives, cpuWriteArena}
+use Rattle.regions.specs.Regions.{chrRead as chrReadGives, chrWriteArena, fillArena, regionRead, regionWriteArena, sramAnswer}
 use Rattle.battery.specs.Battery.{resetState, syncArena, restoreState}
 use Rattle.image.specs.Writing.{writeRefusal, writtenImage}
 use Rattle.clocks.specs.Run.{runGave}
@@ -20,7 +21,7 @@ replyOf (suc q) a = refused (suc q)
 abbrev pub gave : ℕ → Answer → State → List ℕ → Gave Held Answer
 gave q a s arena = record { reply = replyOf q a; state = record { state = s; arena = arena } }
 
--- the contracts of crates/namco163: calls.rt; of crates/battery: lib.rt; of crates/image: writing.rt
+-- the contracts of crates/namco163: calls.rt; of crates/regions and crates/battery: lib.rt; of crates/image: writing.rt
 unfoldable pub otherGives : Other → Held → Gave Held Answer
 otherGives (cpuRead addr) h = let r = cpuReadGives (h .state) (h .arena) addr in gave (r .refusal) (byte (r .byte)) (r .state) (h .arena)
 otherGives (cpuPeek addr) h = let r = cpuPeekGives (h .state) (h .arena) addr in gave (r .refusal) (byte (r .byte)) (h .state) (h .arena)

@@ -1,4 +1,4 @@
-// The public calls on bytes and registers: CPU read, peek and write, CHR read and write, and regions.
+// The CPU's calls: read, peek and write.
 use banking::update_banks;
 use chip::reads::Served;
 use memory::Memory;
@@ -6,12 +6,9 @@ use memory::changes::ChrChanges;
 use memory::changes::PrgChanges;
 use memory::changes::chr_changes;
 use memory::changes::prg_changes;
-use memory::layout::Src;
-use refusals::arena_refusal;
 use refusals::cpu_refusal;
 use refusals::cpu_refusal_of;
-use refusals::fill_refusal;
-use refusals::state_refusal;
+use regions::Peeked;
 use registers::writes;
 use state::State;
 use state::in_range;
@@ -22,19 +19,13 @@ ghost use Rattle.memory.specs.Bytes.{Backed};
 ghost use Rattle.memory.specs.Memory.{Sized};
 ghost use Rattle.state.specs.State.{inRange};
 ghost use Rattle.refusals.specs.Refusals.{firstOf, arenaChecks, fillChecks};
-ghost use Rattle.namco163.specs.Calls.{cpuByte, cpuRead, cpuPeek, writeRegister, changes, refusedWrite, cpuWrite, cpuWriteArena, chrRead, chrWriteArena, fillArena, regionRead, regionWriteArena, sramAnswer};
+ghost use Rattle.namco163.specs.Calls.{cpuByte, cpuRead, cpuPeek, writeRegister, changes, refusedWrite, cpuWrite, cpuWriteArena};
 
 // A read's answer. In each answer `refusal` is 0 for accepted.
 pub struct ByteRead {
     pub refusal: u8,
     pub byte: u8,
     pub state: State,
-}
-
-// The answer of a read that changes nothing.
-pub struct Peeked {
-    pub refusal: u8,
-    pub byte: u8,
 }
 
 // Which entries of the two page tables a write changed.
@@ -48,13 +39,6 @@ pub struct Written {
     pub refusal: u8,
     pub state: State,
     pub changed: Changed,
-}
-
-// Where PRG-RAM lies in the arena, with the used battery bytes behind it.
-pub struct BatterySpan {
-    pub refusal: u8,
-    pub start: usize,
-    pub len: usize,
 }
 
 // The byte at a CPU address: the board's own, or else the page's.
@@ -196,97 +180,4 @@ pub fn cpu_write(s: State, arena: &mut [u8], addr: u16, val: u8) -> Written
     ensures { λ r. ⌜ (r ≡ cpuWrite s (now (arena .entry)) addr val) × (now (arena .exit) ≡ cpuWriteArena s (now (arena .entry)) addr val) ⌝ }
 {
     cpu_write_of(in_range(s), s, arena, addr, val)
-}
-
-pub fn chr_read(s: State, arena: &[u8], addr: u16) -> Peeked
-    ensures { λ r. ⌜ r ≡ chrRead s (now (arena .entry)) addr ⌝ }
-{
-    let q = arena_refusal(s, arena.len());
-    if q != 0 {
-        return Peeked {
-            refusal: q,
-            byte: 0,
-        };
-    }
-    let m = s.memory;
-    Peeked {
-        refusal: 0,
-        byte: m.chr_peek(arena, addr),
-    }
-}
-
-// Answers the refusal number.
-pub fn chr_write(s: State, arena: &mut [u8], addr: u16, val: u8) -> u8
-    ensures { λ r. ⌜ (r ≡ firstOf (arenaChecks s (length (now (arena .entry))))) × (now (arena .exit) ≡ chrWriteArena s (now (arena .entry)) addr val) ⌝ }
-{
-    let q = arena_refusal(s, arena.len());
-    if q != 0 {
-        return q;
-    }
-    let m = s.memory;
-    m.chr_write(arena, addr, val);
-    0
-}
-
-// Copies bytes to a region's start. Answers the refusal number.
-pub fn fill(s: State, arena: &mut [u8], src: Src, bytes: &[u8]) -> u8
-    ensures { λ r. ⌜ (r ≡ firstOf (fillChecks s (length (now (arena .entry))) src (length (now (bytes .entry))))) × (now (arena .exit) ≡ fillArena s (now (arena .entry)) src (now (bytes .entry))) ⌝ }
-{
-    let q = fill_refusal(s, arena.len(), src, bytes.len());
-    if q != 0 {
-        return q;
-    }
-    let m = s.memory;
-    m.fill(arena, src, bytes);
-    0
-}
-
-pub fn region_peek(s: State, arena: &[u8], src: Src, offset: u64) -> Peeked
-    ensures { λ r. ⌜ r ≡ regionRead s (now (arena .entry)) src offset ⌝ }
-{
-    let q = arena_refusal(s, arena.len());
-    if q != 0 {
-        return Peeked {
-            refusal: q,
-            byte: 0,
-        };
-    }
-    let m = s.memory;
-    Peeked {
-        refusal: 0,
-        byte: m.region_peek(arena, src, offset),
-    }
-}
-
-// Answers the refusal number.
-pub fn region_write(s: State, arena: &mut [u8], src: Src, offset: u64, val: u8) -> u8
-    ensures { λ r. ⌜ (r ≡ firstOf (arenaChecks s (length (now (arena .entry))))) × (now (arena .exit) ≡ regionWriteArena s (now (arena .entry)) src offset val) ⌝ }
-{
-    let q = arena_refusal(s, arena.len());
-    if q != 0 {
-        return q;
-    }
-    let m = s.memory;
-    m.region_write(arena, src, offset, val);
-    0
-}
-
-pub fn sram(s: State) -> BatterySpan
-    ensures { λ r. ⌜ r ≡ sramAnswer s ⌝ }
-{
-    let q = state_refusal(s);
-    if q != 0 {
-        return BatterySpan {
-            refusal: q,
-            start: 0,
-            len: 0,
-        };
-    }
-    let m = s.memory;
-    let span = m.sram();
-    BatterySpan {
-        refusal: 0,
-        start: span.start,
-        len: span.len,
-    }
 }

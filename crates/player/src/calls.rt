@@ -118,12 +118,12 @@ fn peek(s: State, arena: &[u8], out: &mut [u8], at: usize, addr: u16) -> usize {
 }
 
 fn chr_read(s: State, arena: &[u8], out: &mut [u8], at: usize, addr: u16) -> usize {
-    let r = board::chr_read(s, arena, addr);
+    let r = regions::chr_read(s, arena, addr);
     answers::byte(out, at, r.refusal, r.byte)
 }
 
 fn chr_write(s: State, arena: &mut [u8], out: &mut [u8], at: usize, addr: u16, val: u8) -> usize {
-    let refusal = board::chr_write(s, arena, addr, val);
+    let refusal = regions::chr_write(s, arena, addr, val);
     answers::ok(out, at, refusal)
 }
 
@@ -138,12 +138,12 @@ fn fill(
     n: usize,
 ) -> usize {
     let named = within(n, bytes);
-    let refusal = board::fill(s, arena, src, &bytes[..named]);
+    let refusal = regions::fill(s, arena, src, &bytes[..named]);
     answers::ok(out, at, refusal)
 }
 
 fn region_peek(s: State, arena: &[u8], out: &mut [u8], at: usize, src: Src, offset: u64) -> usize {
-    let r = board::region_peek(s, arena, src, offset);
+    let r = regions::region_peek(s, arena, src, offset);
     answers::byte(out, at, r.refusal, r.byte)
 }
 
@@ -156,12 +156,12 @@ fn region_write(
     offset: u64,
     val: u8,
 ) -> usize {
-    let refusal = board::region_write(s, arena, src, offset, val);
+    let refusal = regions::region_write(s, arena, src, offset, val);
     answers::ok(out, at, refusal)
 }
 
 fn sram(s: State, out: &mut [u8], at: usize) -> usize {
-    let r = board::sram(s);
+    let r = regions::sram(s);
     answers::pair(out, at, r.refusal, r.start as u64, r.len as u64)
 }
 

@@ -41,7 +41,8 @@ use Rattle.state.proofs.Every.{was-true}
 use Rattle.range.proofs.State.{mapper-in, in-state, state-in, levels-fit}
 use Rattle.namco163.specs.declared.calls.Written.{Written}
 use Rattle.refusals.specs.Refusals.{firstOf, resetChecks, arenaChecks, cpuChecks, fillChecks, batteryChecks, loadChecks}
-use Rattle.namco163.specs.Calls.{cpuRead, writeRegister, changes, refusedWrite, cpuWrite, cpuWriteArena, chrWriteArena, fillArena, regionWriteArena}
+use Rattle.namco163.specs.Calls.{cpuRead, writeRegister, changes, refusedWrite, cpuWrite, cpuWriteArena}
+use Rattle.regions.specs.Regions.{chrWriteArena, fillArena, regionWriteArena}
 use Rattle.battery.specs.Battery.{kindOf, resetState, syncArena, batteryBytes, restoreState}
 use Rattle.cartridge.specs.Cartridge.{LoadFits, memoryAtLoad, freshState, loadArena}
 use Rattle.cartridge.proofs.Laws.{sized-load, load-good}

@@ -13,12 +13,13 @@ use Rattle.state.specs.declared.State.{State}
 use Rattle.state.specs.State.{chipOk, inRange}
 use Rattle.battery.specs.declared.Altered.{Altered}
 use Rattle.namco163.specs.declared.calls.ByteRead.{ByteRead}
-use Rattle.namco163.specs.declared.calls.Peeked.{Peeked}
+use Rattle.regions.specs.declared.Peeked.{Peeked}
 use Rattle.namco163.specs.declared.calls.Written.{Written}
-use Rattle.namco163.specs.declared.calls.BatterySpan.{BatterySpan}
+use Rattle.regions.specs.declared.BatterySpan.{BatterySpan}
 use Rattle.cartridge.specs.declared.Loaded.{Loaded}
 use Rattle.refusals.specs.Refusals.{Check, firstOf, ifAccepted, stateChecks, resetChecks, arenaChecks, cpuChecks, fillChecks, batteryChecks, loadChecks}
-use Rattle.namco163.specs.Calls.{cpuRead, cpuPeek, refusedWrite, cpuWrite, cpuWriteArena, chrRead, chrWriteArena, fillArena, regionRead, regionWriteArena, sramAnswer}
+use Rattle.namco163.specs.Calls.{cpuRead, cpuPeek, refusedWrite, cpuWrite, cpuWriteArena}
+use Rattle.regions.specs.Regions.{chrRead, chrWriteArena, fillArena, regionRead, regionWriteArena, sramAnswer}
 use Rattle.battery.specs.Battery.{resetState, syncArena, restoreState}
 use Rattle.cartridge.specs.Cartridge.{noState, loadAnswer, loadArena}
 

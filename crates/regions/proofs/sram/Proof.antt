@@ -4,9 +4,9 @@ use borrow.Author.Needs.{needs}
 use borrow.Author.Tests.{ne-eqb}
 use Rattle.state.proofs.StateRange.{memory-good}
 use Rattle.refusals.proofs.Laws.{state-good}
-use Rattle.namco163.specs.Calls.{sramAnswer}
-use Rattle.namco163.proofs.calls.sram.Statement.{statement}
-use Rattle.namco163.proofs.calls.sram.Tie as tie
+use Rattle.regions.specs.Regions.{sramAnswer}
+use Rattle.regions.proofs.sram.Statement.{statement}
+use Rattle.regions.proofs.sram.Tie as tie
 
 returns : tie.Need-returns
 unfolding sramAnswer

@@ -3,9 +3,9 @@ use mathlib.Core.Path.{sym, _∙_}
 use borrow.Author.Needs.{needs}
 use borrow.Author.Tests.{ne-eqb}
 use Rattle.refusals.proofs.Laws.{arena-good, backed}
-use Rattle.namco163.specs.Calls.{regionRead}
-use Rattle.namco163.proofs.calls.region_peek.Statement.{statement}
-use Rattle.namco163.proofs.calls.region_peek.Tie as tie
+use Rattle.regions.specs.Regions.{regionRead}
+use Rattle.regions.proofs.region_peek.Statement.{statement}
+use Rattle.regions.proofs.region_peek.Tie as tie
 
 returns : tie.Need-returns
 unfolding regionRead

@@ -3,9 +3,9 @@ use mathlib.Core.Path.{sym, _∙_}
 use borrow.Author.Needs.{needs}
 use borrow.Author.Tests.{ne-eqb}
 use Rattle.refusals.proofs.Laws.{fill-good, backed}
-use Rattle.namco163.specs.Calls.{fillArena}
-use Rattle.namco163.proofs.calls.fill.Statement.{statement}
-use Rattle.namco163.proofs.calls.fill.Tie as tie
+use Rattle.regions.specs.Regions.{fillArena}
+use Rattle.regions.proofs.fill.Statement.{statement}
+use Rattle.regions.proofs.fill.Tie as tie
 
 returns : tie.Need-returns
 unfolding fillArena

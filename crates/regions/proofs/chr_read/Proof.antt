@@ -3,9 +3,9 @@ use mathlib.Core.Path.{sym, _∙_}
 use borrow.Author.Needs.{needs}
 use borrow.Author.Tests.{ne-eqb}
 use Rattle.refusals.proofs.Laws.{arena-good, backed}
-use Rattle.namco163.specs.Calls.{chrRead}
-use Rattle.namco163.proofs.calls.chr_read.Statement.{statement}
-use Rattle.namco163.proofs.calls.chr_read.Tie as tie
+use Rattle.regions.specs.Regions.{chrRead}
+use Rattle.regions.proofs.chr_read.Statement.{statement}
+use Rattle.regions.proofs.chr_read.Tie as tie
 
 returns : tie.Need-returns
 unfolding chrRead

@@ -1,0 +1,2 @@
+-- What stands in quotes is a sentence of 01, the scope document.
+pub mod Regions
