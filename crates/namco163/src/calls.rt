@@ -14,11 +14,9 @@ use state::State;
 use state::in_range;
 ghost use mathlib.Core.Path.{_≡_};
 ghost use Prim.Native.Nat.{_<_};
-ghost use lib.ListN.{length};
 ghost use Rattle.memory.specs.Bytes.{Backed};
 ghost use Rattle.memory.specs.Memory.{Sized};
 ghost use Rattle.state.specs.State.{inRange};
-ghost use Rattle.refusals.specs.Refusals.{firstOf, arenaChecks, fillChecks};
 ghost use Rattle.namco163.specs.Calls.{cpuByte, cpuRead, cpuPeek, writeRegister, changes, refusedWrite, cpuWrite, cpuWriteArena};
 
 // A read's answer. In each answer `refusal` is 0 for accepted.

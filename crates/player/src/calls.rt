@@ -100,7 +100,7 @@ fn restore_battery(s: State, arena: &[u8], out: &mut [u8], at: usize) -> Answere
     Answered { state, at: next }
 }
 
-// The calls that may change the state.
+// The calls that may change the state; `answer` hands it no other.
 fn changing(s: State, call: Call, arena: &mut [u8], out: &mut [u8], at: usize) -> Answered {
     match call {
         Call::Read(addr) => read(s, arena, out, at, addr),
@@ -176,7 +176,7 @@ fn image(s: State, out: &mut [u8], at: usize) -> usize {
     answers::image(out, at, refusal, &img)
 }
 
-// The calls that leave the state as it is: answers where the next byte of the answers goes.
+// The calls that leave the state as it is, and `answer` hands it no other: answers where the next byte of the answers goes.
 fn keeping(
     s: State,
     call: Call,
