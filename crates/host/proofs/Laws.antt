@@ -7,14 +7,14 @@ use borrow.Author.Tests.{eq-eqb, ne-eqb, eqb-true}
 use lib.Dec.{eqb, leb}
 use lib.ListN.{length, getD}
 use Rattle.memory.specs.declared.layout.MemoryLayout.{MemoryLayout}
-use Rattle.state.specs.declared.State.{State}
-use Rattle.state.specs.State.{inRange}
-use Rattle.state.proofs.Every.{and-right}
-use Rattle.refusals.specs.Refusals.{Check, firstOf, stateCheck, loadChecks}
-use Rattle.cartridge.specs.Cartridge.{freshState, loadAnswer}
-use Rattle.refusals.proofs.Laws.{first-done}
-use Rattle.image.specs.Image.{imageBytes, part, partWidths}
-use Rattle.image.specs.Writing.{imageCheck}
+use Rattle.board_state.specs.declared.State.{State}
+use Rattle.board_state.specs.State.{inRange}
+use Rattle.limits.proofs.Every.{and-right}
+use Rattle.call_refusals.specs.Refusals.{Check, firstOf, stateCheck, loadChecks}
+use Rattle.call_load.specs.Cartridge.{freshState, loadAnswer}
+use Rattle.call_refusals.proofs.Laws.{first-done}
+use Rattle.image_write.specs.Image.{imageBytes, part, partWidths}
+use Rattle.image_write.specs.Writing.{imageCheck}
 use Rattle.image_read.specs.declared.reading.ReadImage.{ReadImage}
 use Rattle.image_read.specs.Reading.{cutInto, stateOf, fieldsOk, fieldsOf, readChecks, readImage}
 use Rattle.image_read.proofs.RoundTrip.{accepted-in-range}

@@ -5,9 +5,9 @@ use mathlib.Core.List.{List, [], _∷_}
 use borrow.Author.Needs.{needs}
 use lib.ListN.{length}
 use Rattle.memory.specs.declared.layout.MemoryLayout.{MemoryLayout}
-use Rattle.refusals.specs.Refusals.{kindCheck, loadChecks}
-use Rattle.image.specs.Writing.{imageCheck}
-use Rattle.range.proofs.Decided.{Decided, decided}
+use Rattle.call_refusals.specs.Refusals.{kindCheck, loadChecks}
+use Rattle.image_write.specs.Writing.{imageCheck}
+use Rattle.thm_range.proofs.Decided.{Decided, decided}
 use Rattle.host_state.specs.HostState.{runOwn}
 use Rattle.host.specs.Host.{onImage, stateIn, cpuOwn}
 

@@ -18,17 +18,17 @@ use Rattle.memory.specs.declared.layout.MemoryLayout.{MemoryLayout}
 use Rattle.memory.specs.declared.page.Page.{Page}
 use Rattle.memory.specs.Changes.{same, changed, chrChanges}
 use Rattle.memory.specs.Page.{pick}
-use Rattle.state.proofs.Every.{was-true}
-use Rattle.namco163.specs.declared.calls.Written.{Written}
-use Rattle.refusals.specs.Refusals.{Check, firstOf, kindCheck, cpuChecks, loadChecks}
-use Rattle.namco163.specs.Calls.{changes, writeRegister, cpuRead, cpuWrite}
-use Rattle.refusals.proofs.Laws.{accepted-none}
-use Rattle.image.specs.Image.{pageWidths, partWidths, widths}
-use Rattle.image.specs.Writing.{imageCheck}
+use Rattle.limits.proofs.Every.{was-true}
+use Rattle.call_cpu.specs.declared.calls.Written.{Written}
+use Rattle.call_refusals.specs.Refusals.{Check, firstOf, kindCheck, cpuChecks, loadChecks}
+use Rattle.call_cpu.specs.Calls.{changes, writeRegister, cpuRead, cpuWrite}
+use Rattle.call_refusals.proofs.Laws.{accepted-none}
+use Rattle.image_write.specs.Image.{pageWidths, partWidths, widths}
+use Rattle.image_write.specs.Writing.{imageCheck}
 use Rattle.image_read.specs.Reading.{pagesOf, cutInto, stateFrom, stateOf, fieldsOf}
 use Rattle.image_read.proofs.Parts.{fit-cut}
-use Rattle.clocks.specs.Run.{clocks, made}
-use Rattle.range.proofs.Calls.{cpu-write-mask}
+use Rattle.call_run.specs.Run.{clocks, made}
+use Rattle.thm_range.proofs.Calls.{cpu-write-mask}
 use Rattle.host_state.specs.HostState.{Gives, unlessRefused, readGives, writeGives, runOwn, runGives}
 use Rattle.host.specs.Host.{onImage, stateIn, hostLoad, hostReset, cpuOwn, hostRead, hostWrite, hostRun}
 use Rattle.host_state.proofs.Laws.{accepted-gives}

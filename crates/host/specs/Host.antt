@@ -7,11 +7,11 @@ use lib.Dec.{eqb}
 use lib.ListN.{length}
 use Rattle.memory.specs.declared.layout.MemoryLayout.{MemoryLayout}
 use Rattle.memory.specs.Layout.{arenaLen}
-use Rattle.state.specs.declared.State.{State}
-use Rattle.refusals.specs.Refusals.{Check, kindCheck, arenaCheck, addressCheck, loadChecks}
-use Rattle.cartridge.specs.Cartridge.{freshState, loadArena}
-use Rattle.image.specs.Image.{imageOf}
-use Rattle.image.specs.Writing.{imageCheck}
+use Rattle.board_state.specs.declared.State.{State}
+use Rattle.call_refusals.specs.Refusals.{Check, kindCheck, arenaCheck, addressCheck, loadChecks}
+use Rattle.call_load.specs.Cartridge.{freshState, loadArena}
+use Rattle.image_write.specs.Image.{imageOf}
+use Rattle.image_write.specs.Writing.{imageCheck}
 use Rattle.image_read.specs.Reading.{stateOf, fieldsOf, fieldsCheck}
 use Rattle.host_state.specs.HostState.{Gives, unlessRefused, resetGives, readGives, writeGives, runOwn, runGives}
 

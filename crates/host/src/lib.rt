@@ -1,10 +1,10 @@
 // The five calls of the C host. An image is 307 bytes; each call answers 64 bits, with its refusal number in the low 8, 0 for accepted.
-use cartridge::load;
+use call_load::load;
 use host_state::read_state;
 use host_state::reset_state;
 use host_state::run_state;
 use host_state::write_state;
-use image::writing::write_image;
+use image_write::writing::write_image;
 use image_read::reading::read_image;
 use memory::layout::MemoryLayout;
 ghost use mathlib.Core.Path.{_≡_};

@@ -6,13 +6,13 @@ use mathlib.Core.List.{List}
 use native.Mathlib.Omega.{arith}
 use borrow.Author.Tests.{le-ltb, eq-eqb, ne-eqb}
 use lib.ListN.{length}
-use Rattle.chip.specs.Reads.{afterRead}
-use Rattle.state.specs.declared.State.{State}
-use Rattle.state.specs.State.{inRange}
-use Rattle.refusals.specs.Refusals.{Check, firstOf, cpuChecks}
-use Rattle.namco163.specs.Calls.{cpuRead}
-use Rattle.image.specs.Image.{imageBytes, imageOf}
-use Rattle.image.specs.Writing.{writeRefusal, writtenImage}
+use Rattle.board_chip.specs.Reads.{afterRead}
+use Rattle.board_state.specs.declared.State.{State}
+use Rattle.board_state.specs.State.{inRange}
+use Rattle.call_refusals.specs.Refusals.{Check, firstOf, cpuChecks}
+use Rattle.call_cpu.specs.Calls.{cpuRead}
+use Rattle.image_write.specs.Image.{imageBytes, imageOf}
+use Rattle.image_write.specs.Writing.{writeRefusal, writtenImage}
 use Rattle.image_read.proofs.Accepted.{accepted}
 use Rattle.host_state.specs.HostState.{Gives, unlessRefused}
 

@@ -5,14 +5,14 @@ use lib.Ieee.{Float, binary32, toBits}
 use lib.ListN.{length, drop}
 use Rattle.bits.specs.Fields.{each}
 use Rattle.bits.specs.Words.{bytesOf}
-use Rattle.state.specs.declared.State.{State}
-use Rattle.refusals.specs.Refusals.{Check, firstOf, resetChecks, cpuChecks, stateCheck, ifAccepted}
-use Rattle.namco163.specs.Calls.{cpuRead, cpuWrite, cpuWriteArena}
-use Rattle.battery.specs.Battery.{resetState}
-use Rattle.image.specs.Image.{imageOf}
+use Rattle.board_state.specs.declared.State.{State}
+use Rattle.call_refusals.specs.Refusals.{Check, firstOf, resetChecks, cpuChecks, stateCheck, ifAccepted}
+use Rattle.call_cpu.specs.Calls.{cpuRead, cpuWrite, cpuWriteArena}
+use Rattle.call_battery.specs.Battery.{resetState}
+use Rattle.image_write.specs.Image.{imageOf}
 use Rattle.cut.specs.Calls.{RunGave}
 use Rattle.cut.specs.Contract.{lastOr, runBy}
-use Rattle.clocks.specs.Run.{clocks, made, runLimit, lengthCheck, roomCheck, runChecks}
+use Rattle.call_run.specs.Run.{clocks, made, runLimit, lengthCheck, roomCheck, runChecks}
 
 -- The 64 bits that a call returns, the image afterwards, and the other bytes that it was lent: the arena or the sample bytes.
 pub record Gives : Type 0 where

@@ -5,18 +5,18 @@ use crate::samples::FEW;
 use crate::samples::MOST;
 use crate::samples::put_samples;
 use crate::samples::run_into;
-use battery::reset;
-use image::writing::put_state;
-use image::writing::write_image;
-use namco163::calls::cpu_read_of;
-use namco163::calls::cpu_write_of;
-use state::State;
+use call_battery::reset;
+use image_write::writing::put_state;
+use image_write::writing::write_image;
+use call_cpu::calls::cpu_read_of;
+use call_cpu::calls::cpu_write_of;
+use board_state::State;
 ghost use mathlib.Core.Path.{_≡_};
 ghost use mathlib.Core.Bool.{true};
 ghost use Prim.Native.Nat.{_≤_};
 ghost use lib.ListN.{length};
-ghost use Rattle.state.specs.State.{inRange};
-ghost use Rattle.image.specs.Image.{imageBytes, imageOf};
+ghost use Rattle.board_state.specs.State.{inRange};
+ghost use Rattle.image_write.specs.Image.{imageBytes, imageOf};
 ghost use Rattle.host_state.specs.HostState.{resetOn, readOn, writeOn, HoldsRun, runOn};
 
 // A reset of a state, and its image.

@@ -1,7 +1,7 @@
 // A run for the host: its samples into a buffer, and from there to the host's bytes.
-use clocks::run::Ran;
-use clocks::run::run_of;
-use state::State;
+use call_run::run::Ran;
+use call_run::run::run_of;
+use board_state::State;
 ghost use mathlib.Core.Path.{_≡_};
 ghost use mathlib.Core.Bool.{true, cond, not};
 ghost use mathlib.Core.List.{_++_};
@@ -11,8 +11,8 @@ ghost use lib.Ieee.{nan, isNan};
 ghost use lib.ListN.{length, getD, take, drop};
 ghost use lib.Seq.{sets};
 ghost use Rattle.bits.specs.Fields.{each};
-ghost use Rattle.state.specs.State.{inRange};
-ghost use Rattle.clocks.specs.Run.{ranOf};
+ghost use Rattle.board_state.specs.State.{inRange};
+ghost use Rattle.call_run.specs.Run.{ranOf};
 ghost use Rattle.host_state.specs.HostState.{sampleBytes, runIn, HoldsRun};
 
 // As many samples as a run can make: 65,536 clocks from an update counter of 14.

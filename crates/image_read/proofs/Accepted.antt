@@ -9,12 +9,12 @@ use lib.Dec.{leb}
 use lib.ListN.{length, take, drop, getD}
 use Rattle.bits.specs.Fields.{total, unpack}
 use Rattle.bits.specs.Words.{wordOf}
-use Rattle.state.specs.declared.State.{State}
-use Rattle.state.specs.State.{inRange}
-use Rattle.refusals.specs.Refusals.{firstOf}
-use Rattle.cartridge.specs.Cartridge.{noState}
-use Rattle.image.specs.Image.{imageBytes, part, joined, chipWidths}
-use Rattle.image.proofs.Ranges.{state-facts, sound-facts}
+use Rattle.board_state.specs.declared.State.{State}
+use Rattle.board_state.specs.State.{inRange}
+use Rattle.call_refusals.specs.Refusals.{firstOf}
+use Rattle.call_load.specs.Cartridge.{noState}
+use Rattle.image_write.specs.Image.{imageBytes, part, joined, chipWidths}
+use Rattle.image_write.proofs.Ranges.{state-facts, sound-facts}
 use Rattle.image_read.specs.declared.reading.Head.{Head}
 use Rattle.image_read.specs.Reading.{stateFrom, stateOf, fieldsOk, fieldsOf, readImage}
 use Rattle.image_read.specs.Sections.{fieldsAt, headParts, chipOf, soundAt, memoryAt}

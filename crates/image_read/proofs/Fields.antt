@@ -6,11 +6,11 @@ use native.Mathlib.Nat.{div-one, mod-eq-of-lt}
 use lib.ListN.{take, drop}
 use Rattle.bits.specs.Fields.{total, unpack}
 use Rattle.bits.specs.Words.{wordOf}
-use Rattle.chip.specs.declared.namco163.Board.the-variants.{Namco340}
+use Rattle.board_chip.specs.declared.namco163.Board.the-variants.{Namco340}
 use Rattle.memory.specs.declared.mirroring.Mirroring.the-variants.{FourScreen}
 use Rattle.image_read.specs.Reading.{boardOf, mirroringOf}
 use Rattle.image_read.specs.Sections.{fieldsAt}
-use Rattle.image.specs.Image.{part, soundWidths, memoryWidths}
+use Rattle.image_write.specs.Image.{part, soundWidths, memoryWidths}
 
 pub board-else : (n : ℕ) → (n ≡ 0 → ⊥) → (n ≡ 1 → ⊥) → (n ≡ 2 → ⊥) → Namco340 ≡ boardOf n
 board-else zero a b c = absurd (a refl)

@@ -7,8 +7,8 @@ use borrow.Author.Tests.{le-ltb}
 use lib.Dec.{T}
 use lib.Ieee.{binary32, toBits, ofBits, nanBits}
 use lib.Ieee.Bits.{toBits-ofBits, nanBits-above}
-use Rattle.state.specs.Audio.{outOk}
-use Rattle.image.proofs.Levels.{out-facts}
+use Rattle.board_state.specs.Audio.{outOk}
+use Rattle.image_write.proofs.Levels.{out-facts}
 
 no-nan : (n : ℕ) → n ≤ 0x456F1000 → nanBits binary32 n ≡ false
 no-nan n h = nanBits-above binary32 n ∙ le-ltb 0x7F800000 (n % 0x80000000) (omega arith)

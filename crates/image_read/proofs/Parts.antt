@@ -6,8 +6,8 @@ use native.Mathlib.Omega.{arith}
 use lib.ListN.{length, take, drop, getD, take-append-drop}
 use Rattle.bits.specs.Fields.{Fit}
 use Rattle.bits.proofs.Fields.{fit-append, fit-length}
-use Rattle.image.specs.Image.{joined}
-use Rattle.image.proofs.Parts.{SameLengths}
+use Rattle.image_write.specs.Image.{joined}
+use Rattle.image_write.proofs.Parts.{SameLengths}
 use Rattle.image_read.specs.Reading.{cutInto}
 
 -- the values of each part fit its widths

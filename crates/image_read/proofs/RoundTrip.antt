@@ -13,13 +13,13 @@ use Rattle.bits.specs.Words.{wordOf, bytesOf}
 use Rattle.bits.proofs.Fields.{fit-unpack}
 use Rattle.bits.proofs.RoundTrip.{fields-back, bytes-back}
 use Rattle.bits.proofs.words.Laws.{length-bytes}
-use Rattle.state.specs.declared.State.{State}
-use Rattle.state.specs.State.{inRange}
-use Rattle.state.proofs.Every.{and-left, and-right, was-true}
-use Rattle.refusals.specs.Refusals.{firstOf}
-use Rattle.refusals.proofs.Laws.{accepted-none}
-use Rattle.image.specs.Image.{imageBytes, part, partWidths, partFields, widths, fields, imageOf}
-use Rattle.image.proofs.Whole.{total-widths}
+use Rattle.board_state.specs.declared.State.{State}
+use Rattle.board_state.specs.State.{inRange}
+use Rattle.limits.proofs.Every.{and-left, and-right, was-true}
+use Rattle.call_refusals.specs.Refusals.{firstOf}
+use Rattle.call_refusals.proofs.Laws.{accepted-none}
+use Rattle.image_write.specs.Image.{imageBytes, part, partWidths, partFields, widths, fields, imageOf}
+use Rattle.image_write.proofs.Whole.{total-widths}
 use Rattle.image_read.specs.Reading.{cutInto, stateOf, fieldsOk, fieldsOf, readChecks, readImage}
 use Rattle.image_read.specs.Typed.{Bytes, Typed}
 use Rattle.image_read.proofs.Accepted.{accepted}

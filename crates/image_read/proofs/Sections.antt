@@ -13,9 +13,9 @@ use Rattle.bits.specs.declared.cursor.Cursor.{Cursor}
 use Rattle.bits.proofs.Fields.{pack-lt, pack-unpack, unpack-pack, fit-unpack, length-unpack}
 use Rattle.bits.proofs.words.Laws.{total-eights, word-append}
 use Rattle.bits.proofs.cursor.Laws.{read-append, read-none, finish-read, bytes-read}
-use Rattle.image.specs.Image.{imageBytes, part, joined, chipWidths, soundWidths, memoryWidths, partWidths, widths, byteAt}
-use Rattle.image.proofs.Parts.{_then_, SameLengths, joined-append}
-use Rattle.image.proofs.Whole.{total-widths}
+use Rattle.image_write.specs.Image.{imageBytes, part, joined, chipWidths, soundWidths, memoryWidths, partWidths, widths, byteAt}
+use Rattle.image_write.proofs.Parts.{_then_, SameLengths, joined-append}
+use Rattle.image_write.proofs.Whole.{total-widths}
 use Rattle.image_read.specs.declared.reading.Head.{Head}
 use Rattle.image_read.specs.Reading.{cutInto, fieldsOf}
 use Rattle.image_read.specs.Sections.{fieldsAt, headParts}

@@ -16,21 +16,21 @@ use Rattle.bits.proofs.Lists.{listed-is, getD-map}
 use Rattle.memory.specs.declared.page.Page.{Page}
 use Rattle.memory.specs.Layout.{arenaPages}
 use Rattle.memory.specs.Page.{writableOf}
-use Rattle.chip.specs.declared.namco163.Board.{Board}
-use Rattle.chip.specs.declared.namco163.Board.the-variants.{Unknown, Namco163, Namco175, Namco340}
-use Rattle.chip.specs.Namco163.{boardNum}
+use Rattle.board_chip.specs.declared.namco163.Board.{Board}
+use Rattle.board_chip.specs.declared.namco163.Board.the-variants.{Unknown, Namco163, Namco175, Namco340}
+use Rattle.board_chip.specs.Namco163.{boardNum}
 use Rattle.sound.specs.Mix.{whole}
-use Rattle.state.specs.declared.State.{State}
-use Rattle.state.specs.Audio.{outputTest, phaseTest, levelOk}
-use Rattle.state.specs.State.{inRange}
-use Rattle.state.specs.Every.{every}
-use Rattle.state.proofs.Every.{every-at}
-use Rattle.state.proofs.TablesRange.{memory-in}
-use Rattle.image.specs.Image.{part, joined, partWidths, partFields, levelNum, pageWidths, pageFields, layoutWidths, widths, fields}
-use Rattle.image.specs.Pages.{PagesFit}
-use Rattle.image.proofs.Levels.{level-facts, out-facts}
-use Rattle.image.proofs.Parts.{_then_, fit-replicate}
-use Rattle.image.proofs.Ranges.{state-facts, sound-facts, bank-at, prg-at, chr-at}
+use Rattle.board_state.specs.declared.State.{State}
+use Rattle.board_state.specs.Audio.{outputTest, phaseTest, levelOk}
+use Rattle.board_state.specs.State.{inRange}
+use Rattle.limits.specs.Every.{every}
+use Rattle.limits.proofs.Every.{every-at}
+use Rattle.board_state.proofs.TablesRange.{memory-in}
+use Rattle.image_write.specs.Image.{part, joined, partWidths, partFields, levelNum, pageWidths, pageFields, layoutWidths, widths, fields}
+use Rattle.image_write.specs.Pages.{PagesFit}
+use Rattle.image_write.proofs.Levels.{level-facts, out-facts}
+use Rattle.image_write.proofs.Parts.{_then_, fit-replicate}
+use Rattle.image_write.proofs.Ranges.{state-facts, sound-facts, bank-at, prg-at, chr-at}
 use Rattle.image_read.specs.Reading.{yes, cutInto, stateFrom, stateOf}
 use Rattle.image_read.specs.Typed.{Typed}
 use Rattle.image_read.proofs.Out.{out-back}

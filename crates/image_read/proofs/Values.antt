@@ -14,9 +14,9 @@ use lib.IntN.{pos}
 use lib.ListN.{length, getD}
 use Rattle.bits.specs.Fields.{bit, Fit, times, each}
 use Rattle.bits.proofs.Fields.{bit-eqb}
-use Rattle.chip.specs.declared.namco163.Board.{Board}
-use Rattle.chip.specs.declared.namco163.Board.the-variants.{Unknown, Namco163, Namco175, Namco340}
-use Rattle.chip.specs.Namco163.{boardNum}
+use Rattle.board_chip.specs.declared.namco163.Board.{Board}
+use Rattle.board_chip.specs.declared.namco163.Board.the-variants.{Unknown, Namco163, Namco175, Namco340}
+use Rattle.board_chip.specs.Namco163.{boardNum}
 use Rattle.memory.specs.declared.mirroring.Mirroring.{Mirroring}
 use Rattle.memory.specs.declared.mirroring.Mirroring.the-variants.{Vertical, Horizontal, SingleScreenA, SingleScreenB, FourScreen}
 use Rattle.memory.specs.declared.page.Page.{Page}
@@ -24,9 +24,9 @@ use Rattle.memory.specs.Mirroring.{mirroringNum}
 use Rattle.memory.specs.Memory.{EntryIn}
 use Rattle.memory.specs.Page.{pick, unmapped, pageOf, offsetOf, writableOf}
 use Rattle.sound.specs.Mix.{whole}
-use Rattle.state.specs.Audio.{levelOk}
-use Rattle.image.specs.Image.{levelNum, pageWidths, pageFields}
-use Rattle.image.proofs.Levels.{level-facts}
+use Rattle.board_state.specs.Audio.{levelOk}
+use Rattle.image_write.specs.Image.{levelNum, pageWidths, pageFields}
+use Rattle.image_write.proofs.Levels.{level-facts}
 use Rattle.image_read.specs.Reading.{yes, boardOf, mirroringOf, pagesOf}
 
 -- ---- one element

@@ -2,7 +2,7 @@
 use Prim.Native.Nat.{ℕ}
 use mathlib.Core.List.{List, _++_}
 use Rattle.bits.specs.Fields.{unpack, times}
-use Rattle.image.specs.Image.{pageWidths}
+use Rattle.image_write.specs.Image.{pageWidths}
 use Rattle.image_read.specs.declared.pages.Eight.{Eight}
 
 -- the fields of eight entries, of the words that hold them

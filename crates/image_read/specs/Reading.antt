@@ -14,17 +14,17 @@ use Rattle.memory.specs.declared.page.Page.{Page}
 use Rattle.memory.specs.Page.{pageOf}
 use Rattle.sound.specs.declared.audio.Audio.{Audio}
 use Rattle.sound.specs.Mix.{whole}
-use Rattle.chip.specs.declared.namco163.Board.{Board}
-use Rattle.chip.specs.declared.namco163.Board.the-variants.{Unknown, Namco163 as Is163, Namco175, Namco340}
-use Rattle.chip.specs.declared.namco163.Namco163.{Namco163}
-use Rattle.chip.specs.declared.namco163.Regs.{Regs}
-use Rattle.state.specs.declared.State.{State}
-use Rattle.state.specs.State.{inRange}
-use Rattle.refusals.specs.Refusals.{Check, firstOf, ifAccepted}
-use Rattle.cartridge.specs.Cartridge.{noState}
+use Rattle.board_chip.specs.declared.namco163.Board.{Board}
+use Rattle.board_chip.specs.declared.namco163.Board.the-variants.{Unknown, Namco163 as Is163, Namco175, Namco340}
+use Rattle.board_chip.specs.declared.namco163.Namco163.{Namco163}
+use Rattle.board_chip.specs.declared.namco163.Regs.{Regs}
+use Rattle.board_state.specs.declared.State.{State}
+use Rattle.board_state.specs.State.{inRange}
+use Rattle.call_refusals.specs.Refusals.{Check, firstOf, ifAccepted}
+use Rattle.call_load.specs.Cartridge.{noState}
 use Rattle.image_read.specs.declared.reading.ReadImage.{ReadImage}
-use Rattle.image.specs.Image.{part, partWidths, widths}
-use Rattle.image.specs.Writing.{imageCheck}
+use Rattle.image_write.specs.Image.{part, partWidths, widths}
+use Rattle.image_write.specs.Writing.{imageCheck}
 
 -- ---- fields back to what they were made of
 

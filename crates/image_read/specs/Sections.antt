@@ -6,8 +6,8 @@ use Rattle.bits.specs.Fields.{unpack}
 use Rattle.bits.specs.Words.{wordOf}
 use Rattle.memory.specs.declared.Memory.{Memory}
 use Rattle.sound.specs.declared.audio.Audio.{Audio}
-use Rattle.chip.specs.declared.namco163.Namco163.{Namco163}
-use Rattle.image.specs.Image.{part, chipWidths, soundWidths, memoryWidths}
+use Rattle.board_chip.specs.declared.namco163.Namco163.{Namco163}
+use Rattle.image_write.specs.Image.{part, chipWidths, soundWidths, memoryWidths}
 use Rattle.image_read.specs.declared.reading.Head.{Head}
 use Rattle.image_read.specs.Reading.{audioFrom, chipFrom, memoryFrom}
 

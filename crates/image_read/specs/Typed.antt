@@ -9,8 +9,8 @@ use Rattle.memory.specs.declared.Memory.{Memory}
 use Rattle.memory.specs.Page.{unmapped}
 use Rattle.sound.specs.declared.audio.Audio.{Audio}
 use Rattle.sound.specs.Range.{Typed as AudioTyped}
-use Rattle.chip.specs.declared.namco163.Namco163.{Namco163}
-use Rattle.state.specs.declared.State.{State}
+use Rattle.board_chip.specs.declared.namco163.Namco163.{Namco163}
+use Rattle.board_state.specs.declared.State.{State}
 
 -- bytes of 8 bits
 abbrev pub Bytes : List ℕ → Type 0

@@ -8,7 +8,7 @@ ghost use lib.ListN.{length};
 ghost use Rattle.bits.specs.Fields.{times};
 ghost use Rattle.memory.specs.Page.{pageOf};
 ghost use Rattle.bits.specs.Cursor.{Read};
-ghost use Rattle.image.specs.Image.{imageBytes, pageWidths, byteAt};
+ghost use Rattle.image_write.specs.Image.{imageBytes, pageWidths, byteAt};
 ghost use Rattle.image_read.specs.Reading.{yes, pagesOf};
 ghost use Rattle.image_read.specs.Sections.{fieldsAt};
 ghost use Rattle.image_read.specs.Pages.{eightFields};

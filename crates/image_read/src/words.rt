@@ -1,13 +1,13 @@
 // Words back to the fields that they hold.
-use chip::namco163::Board;
-use chip::namco163::Regs;
+use board_chip::namco163::Board;
+use board_chip::namco163::Regs;
 use memory::mirroring::Mirroring;
 ghost use mathlib.Core.Path.{_≡_};
 ghost use mathlib.Core.List.{_++_, map};
 ghost use Prim.Native.Nat.{_/_, _%_};
 ghost use lib.ListN.{replicate};
 ghost use Rattle.bits.specs.Fields.{unpack};
-ghost use Rattle.image.specs.Image.{part, chipWidths};
+ghost use Rattle.image_write.specs.Image.{part, chipWidths};
 ghost use Rattle.image_read.specs.Reading.{yes, regsFrom, boardOf, mirroringOf};
 
 pub fn regs_of(w: u64) -> Regs

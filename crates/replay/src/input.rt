@@ -3,10 +3,10 @@ ghost use Prim.Native.Nat.{_≤_};
 ghost use lib.ListN.{length};
 use libc::STDIN_FILENO;
 use libc::STDOUT_FILENO;
-use player::line::answer;
-use player::player::Player;
-use player::player::within;
-use text::out::put_all;
+use replay_player::line::answer;
+use replay_player::player::Player;
+use replay_player::player::within;
+use replay_text::out::put_all;
 
 // Where the next line feed stands, or the chunk's end.
 fn line_end(chunk: &[u8], from: usize) -> usize

@@ -1,5 +1,5 @@
 // Replays a list of calls from standard input, one a line, and writes an answer line for each.
-use player::player::Player;
+use replay_player::player::Player;
 
 mod input; // input.rt: lines of the input
 

@@ -3,12 +3,12 @@ use mathlib.Core.Path.{_≡_, sym, ap, _∙_}
 use mathlib.Core.List.{_∷_}
 use lib.ListN.{length}
 use borrow.Author.Needs.{needs}
-use Rattle.cartridge.specs.declared.Loaded.{Loaded}
-use Rattle.refusals.specs.Refusals.{firstOf, loadChecks}
-use Rattle.cartridge.specs.Cartridge.{freshState}
-use Rattle.image.specs.Writing.{imageCheck, writtenImage}
-use Rattle.range.proofs.Refused.{load-number, load-refused}
-use Rattle.range.proofs.Calls.{load-fits}
+use Rattle.call_load.specs.declared.Loaded.{Loaded}
+use Rattle.call_refusals.specs.Refusals.{firstOf, loadChecks}
+use Rattle.call_load.specs.Cartridge.{freshState}
+use Rattle.image_write.specs.Writing.{imageCheck, writtenImage}
+use Rattle.thm_range.proofs.Refused.{load-number, load-refused}
+use Rattle.thm_range.proofs.Calls.{load-fits}
 use Rattle.host.specs.Host.{yes, sizesOf, loadGives, hostLoad}
 use Rattle.host_state.proofs.Laws.{Called, called, word-of, image-of, lent-of, written-in-range}
 use Rattle.host.proofs.Laws.{not-307, is-307, load-state}

@@ -2,10 +2,10 @@
 use mathlib.Core.Path.{sym, ap, _∙_}
 use native.Mathlib.Omega.{arith}
 use borrow.Author.Needs.{needs}
-use Rattle.image.specs.Image.{imageOf}
+use Rattle.image_write.specs.Image.{imageOf}
 use Rattle.image_read.specs.declared.reading.ReadImage.{ReadImage}
 use Rattle.image_read.proofs.RoundTrip.{written-read}
-use Rattle.state.specs.declared.State.{State}
+use Rattle.board_state.specs.declared.State.{State}
 use Rattle.host_state.specs.HostState.{readGives, readOn}
 use Rattle.host.specs.Host.{cpuOwn, hostRead}
 use Rattle.host_state.proofs.Laws.{word-of, image-of}

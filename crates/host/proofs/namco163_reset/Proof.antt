@@ -2,8 +2,8 @@
 use mathlib.Core.Path.{_∙_}
 use mathlib.Core.List.{[], _∷_}
 use borrow.Author.Needs.{needs}
-use Rattle.state.specs.declared.State.{State}
-use Rattle.refusals.specs.Refusals.{kindCheck}
+use Rattle.board_state.specs.declared.State.{State}
+use Rattle.call_refusals.specs.Refusals.{kindCheck}
 use Rattle.host_state.specs.HostState.{resetGives, resetOn}
 use Rattle.host.specs.Host.{hostReset}
 use Rattle.host_state.proofs.Laws.{word-of, image-of}

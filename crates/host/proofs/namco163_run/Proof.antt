@@ -1,7 +1,7 @@
 -- `namco163_run` meets its contract: refused by the image, or on with its state.
 use mathlib.Core.Path.{_∙_}
 use borrow.Author.Needs.{needs}
-use Rattle.state.specs.declared.State.{State}
+use Rattle.board_state.specs.declared.State.{State}
 use Rattle.host_state.specs.HostState.{runOwn, runGives, runOn}
 use Rattle.host.specs.Host.{hostRun}
 use Rattle.host_state.proofs.Laws.{word-of, image-of, lent-of}

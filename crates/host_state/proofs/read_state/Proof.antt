@@ -3,13 +3,13 @@ use Prim.Native.Nat.{_*_}
 use mathlib.Core.Path.{sym, ap, _∙_}
 use lib.ListN.{length}
 use borrow.Author.Needs.{needs}
-use Rattle.namco163.specs.declared.calls.ByteRead.{ByteRead}
-use Rattle.refusals.specs.Refusals.{cpuChecks}
-use Rattle.image.specs.Image.{imageOf}
-use Rattle.state.specs.State.{inRange}
-use Rattle.range.proofs.Refused.{cpu-read-number}
-use Rattle.range.proofs.Calls.{cpu-read-keeps}
-use Rattle.range.proofs.Types.{typed-state}
+use Rattle.call_cpu.specs.declared.calls.ByteRead.{ByteRead}
+use Rattle.call_refusals.specs.Refusals.{cpuChecks}
+use Rattle.image_write.specs.Image.{imageOf}
+use Rattle.board_state.specs.State.{inRange}
+use Rattle.thm_range.proofs.Refused.{cpu-read-number}
+use Rattle.thm_range.proofs.Calls.{cpu-read-keeps}
+use Rattle.thm_range.proofs.Types.{typed-state}
 use Rattle.host_state.specs.HostState.{readGives}
 use Rattle.host_state.proofs.Laws.{Called, called, word-of, image-of, still-read}
 use Rattle.host_state.proofs.read_state.Statement.{statement}

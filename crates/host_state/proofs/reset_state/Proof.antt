@@ -2,13 +2,13 @@
 use mathlib.Core.Path.{ap, _∙_}
 use mathlib.Core.List.{[]}
 use borrow.Author.Needs.{needs}
-use Rattle.battery.specs.declared.Altered.{Altered}
-use Rattle.refusals.specs.Refusals.{resetChecks}
-use Rattle.battery.specs.Battery.{resetState}
-use Rattle.image.specs.Writing.{writtenImage}
-use Rattle.range.proofs.Refused.{reset-number}
-use Rattle.range.proofs.Calls.{reset-keeps}
-use Rattle.range.proofs.Types.{typed-state}
+use Rattle.call_battery.specs.declared.Altered.{Altered}
+use Rattle.call_refusals.specs.Refusals.{resetChecks}
+use Rattle.call_battery.specs.Battery.{resetState}
+use Rattle.image_write.specs.Writing.{writtenImage}
+use Rattle.thm_range.proofs.Refused.{reset-number}
+use Rattle.thm_range.proofs.Calls.{reset-keeps}
+use Rattle.thm_range.proofs.Types.{typed-state}
 use Rattle.host_state.specs.HostState.{resetGives}
 use Rattle.host_state.proofs.Laws.{Called, called, word-of, image-of, written-in-range}
 use Rattle.host_state.proofs.reset_state.Statement.{statement}

@@ -7,13 +7,13 @@ use lib.Ieee.{Float}
 use lib.ListN.{length, drop}
 use borrow.Author.Needs.{needs}
 use Rattle.bits.specs.Fields.{each}
-use Rattle.refusals.specs.Refusals.{stateCheck}
-use Rattle.state.specs.State.{inRange}
-use Rattle.image.specs.Image.{imageOf}
-use Rattle.clocks.specs.declared.run.Ran.{Ran}
-use Rattle.clocks.specs.Run.{clocks}
-use Rattle.range.proofs.Types.{typed-state}
-use Rattle.range.proofs.Runs.{clocks-keep}
+use Rattle.call_refusals.specs.Refusals.{stateCheck}
+use Rattle.board_state.specs.State.{inRange}
+use Rattle.image_write.specs.Image.{imageOf}
+use Rattle.call_run.specs.declared.run.Ran.{Ran}
+use Rattle.call_run.specs.Run.{clocks}
+use Rattle.thm_range.proofs.Types.{typed-state}
+use Rattle.thm_range.proofs.Runs.{clocks-keep}
 use Rattle.host_state.specs.HostState.{runOwn, runGives, sampleBytes}
 use Rattle.host_state.proofs.Laws.{Called, called, word-of, image-of, lent-of}
 use Rattle.host_state.proofs.samples.Laws.{run-number, Ended, ended, samples-numbers, first-are}

@@ -17,16 +17,16 @@ use Rattle.bits.proofs.words.Laws.{length-bytes}
 use Rattle.cut.specs.Calls.{Point}
 use Rattle.cut.specs.Contract.{lastOr, runBy}
 use Rattle.sound.proofs.Range.Run.{samples-number}
-use Rattle.chip.specs.Namco163.{is163}
-use Rattle.state.specs.declared.State.{State}
-use Rattle.state.specs.State.{inRange}
-use Rattle.refusals.specs.Refusals.{firstOf}
-use Rattle.clocks.specs.declared.run.Ran.{Ran}
-use Rattle.clocks.specs.Run.{clocks, made, runChecks, ranOf}
-use Rattle.state.proofs.StateRange.{counter-small}
-use Rattle.clocks.proofs.run.Laws.{run-good, made-floor, sounds-samples, silent-samples}
-use Rattle.range.specs.Typed.{Typed}
-use Rattle.range.proofs.State.{state-in}
+use Rattle.board_chip.specs.Namco163.{is163}
+use Rattle.board_state.specs.declared.State.{State}
+use Rattle.board_state.specs.State.{inRange}
+use Rattle.call_refusals.specs.Refusals.{firstOf}
+use Rattle.call_run.specs.declared.run.Ran.{Ran}
+use Rattle.call_run.specs.Run.{clocks, made, runChecks, ranOf}
+use Rattle.board_state.proofs.StateRange.{counter-small}
+use Rattle.call_run.proofs.run.Laws.{run-good, made-floor, sounds-samples, silent-samples}
+use Rattle.thm_range.specs.Typed.{Typed}
+use Rattle.thm_range.proofs.State.{state-in}
 use Rattle.host_state.specs.HostState.{sampleBytes, runIn, HoldsRun}
 
 -- ---- bytes

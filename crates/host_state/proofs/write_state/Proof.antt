@@ -4,13 +4,13 @@ use mathlib.Core.Path.{sym, ap, _∙_}
 use native.Mathlib.Omega.{arith}
 use lib.ListN.{length}
 use borrow.Author.Needs.{needs}
-use Rattle.namco163.specs.declared.calls.Written.{Written}
-use Rattle.refusals.specs.Refusals.{cpuChecks}
-use Rattle.image.specs.Image.{imageOf}
-use Rattle.state.specs.State.{inRange}
-use Rattle.range.proofs.Refused.{cpu-write-number, cpu-write-refused}
-use Rattle.range.proofs.Calls.{cpu-write-keeps, cpu-write-mask}
-use Rattle.range.proofs.Types.{typed-state}
+use Rattle.call_cpu.specs.declared.calls.Written.{Written}
+use Rattle.call_refusals.specs.Refusals.{cpuChecks}
+use Rattle.image_write.specs.Image.{imageOf}
+use Rattle.board_state.specs.State.{inRange}
+use Rattle.thm_range.proofs.Refused.{cpu-write-number, cpu-write-refused}
+use Rattle.thm_range.proofs.Calls.{cpu-write-keeps, cpu-write-mask}
+use Rattle.thm_range.proofs.Types.{typed-state}
 use Rattle.host_state.specs.HostState.{writeGives}
 use Rattle.host_state.proofs.Laws.{Called, called, word-of, image-of, lent-of}
 use Rattle.host_state.proofs.write_state.Statement.{statement}

@@ -14,7 +14,7 @@ use Rattle.bits.proofs.Fields.{pack-unpack, fit-unpack, fit-append, length-unpa
 use Rattle.bits.proofs.cursor.Laws.{read-append, read-none}
 use Rattle.memory.specs.declared.page.Page.{Page}
 use Rattle.memory.specs.Page.{pageOf, unmapped}
-use Rattle.image.specs.Image.{pageWidths, byteAt}
+use Rattle.image_write.specs.Image.{pageWidths, byteAt}
 use Rattle.image_read.specs.declared.pages.Eight.{Eight}
 use Rattle.image_read.specs.Reading.{yes, pagesOf}
 use Rattle.image_read.specs.Sections.{fieldsAt}

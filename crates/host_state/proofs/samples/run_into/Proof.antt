@@ -7,9 +7,9 @@ use lib.ListN.{length, take, drop}
 use lib.Seq.{length-take-le}
 use borrow.Author.Needs.{needs}
 use Rattle.cut.specs.Contract.{runBy}
-use Rattle.refusals.specs.Refusals.{firstOf}
-use Rattle.clocks.specs.Run.{clocks, runChecks, runGave, ranOf}
-use Rattle.clocks.proofs.run.Laws.{run-good}
+use Rattle.call_refusals.specs.Refusals.{firstOf}
+use Rattle.call_run.specs.Run.{clocks, runChecks, runGave, ranOf}
+use Rattle.call_run.proofs.run.Laws.{run-good}
 use Rattle.host_state.proofs.samples.Laws.{room-enough, answer-alone, whole-buffer}
 use Rattle.host_state.proofs.samples.run_into.Statement.{statement}
 use Rattle.host_state.proofs.samples.run_into.Tie as tie

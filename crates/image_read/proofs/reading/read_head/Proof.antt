@@ -6,7 +6,7 @@ use lib.ListN.{replicate}
 use Rattle.bits.specs.Fields.{total, unpack}
 use Rattle.bits.specs.declared.cursor.Cursor.{Cursor}
 use Rattle.bits.proofs.cursor.Laws.{read-append, read-word}
-use Rattle.image.specs.Image.{part, joined, chipWidths}
+use Rattle.image_write.specs.Image.{part, joined, chipWidths}
 use Rattle.image_read.proofs.Sections.{section-is, read-part, read-end, chip-bits}
 use native.Mathlib.Omega.{arith}
 use borrow.Author.Needs.{needs}

@@ -1,0 +1,113 @@
+// The page tables by the registers.
+use board_chip::namco163::Namco163;
+use memory::Memory;
+use memory::layout::Region;
+use memory::layout::Src;
+use memory::page::Page;
+use memory::windows::mapped_chr_pages;
+ghost use mathlib.Core.Path.{_≡_};
+ghost use mathlib.Core.Bool.{cond};
+ghost use Prim.Native.Nat.{_+_, _≤_, _<_};
+ghost use lib.ListN.{length};
+ghost use Rattle.memory.specs.Memory.{Sized};
+ghost use Rattle.board_banking.specs.Banking.{slotPages, mapSlots, mapChrTable, mapBank, mapRom, mapWorkRam, updateBanks};
+
+// The PPU's table after a slot shows a bank of a region. Only the table is handed on, since a memory is long.
+fn slot_pages(pages: [Page; 16], region: Region, slot: u16, bank: u8) -> [Page; 16]
+    requires { ⌜ (region .start + region .len ≤ 858112) × (slot < 12) ⌝ }
+    ensures { λ r. ⌜ (r ≡ slotPages region slot bank pages) × (length r ≡ 16) ⌝ }
+{
+    let size = Memory::CHR_WINDOW;
+    let low = mapped_chr_pages(pages, slot * 1024, size, bank as i32, region);
+    if slot < 8 {
+        return low;
+    }
+    mapped_chr_pages(low, slot * 1024 + 0x1000, size, bank as i32, region)
+}
+
+// The region that a CHR slot shows.
+fn slot_region(ciram: bool, chr: Region, nametables: Region) -> Region
+    requires { ⌜ (chr .start + chr .len ≤ 858112) × (nametables .start + nametables .len ≤ 858112) ⌝ }
+    ensures { λ r. ⌜ (r ≡ cond ciram nametables chr) × (r .start + r .len ≤ 858112) ⌝ }
+{
+    if ciram {
+        return nametables;
+    }
+    chr
+}
+
+// The first n slots.
+fn map_slots(chip: Namco163, m: Memory, n: u16) -> Memory
+    requires { ⌜ (Sized m) × (n ≤ 12) ⌝ }
+    ensures { λ r. ⌜ (r ≡ mapSlots chip n m) × (Sized r) ⌝ }
+{
+    let layout = m.layout;
+    let chr = layout.region(m.battery_ext_len, Src::Chr);
+    let nametables = layout.region(m.battery_ext_len, Src::CiRam);
+    let mut pages = m.chr_pages;
+    let mut slot: u16 = 0;
+    while slot < n {
+        let i = slot as usize;
+        let region = slot_region(chip.nt_bank_enable[i], chr, nametables);
+        let next = slot_pages(pages, region, slot, chip.chr_banks[i]);
+        pages = next;
+        slot += 1;
+    }
+    let mut out = m;
+    out.chr_pages = pages;
+    out
+}
+
+// On a 163 the nametables are slots like the others; elsewhere they come from the mirroring.
+fn map_chr_table(chip: Namco163, m: Memory) -> Memory
+    requires { ⌜ Sized m ⌝ }
+    ensures { λ r. ⌜ (r ≡ mapChrTable chip m) × (Sized r) ⌝ }
+{
+    let board = chip.board;
+    if board.num() == 1 {
+        return map_slots(chip, m, 12);
+    }
+    let mirroring = chip.mirroring;
+    let low = map_slots(chip, m, 8);
+    low.set_mirroring(mirroring)
+}
+
+// A PRG-ROM bank in an 8 KiB window.
+fn map_bank(m: Memory, addr: u16, bank: u8) -> Memory
+    requires { ⌜ Sized m ⌝ }
+    ensures { λ r. ⌜ (r ≡ mapBank m addr bank) × (Sized r) ⌝ }
+{
+    m.map_prg(addr, Memory::PRG_WINDOW, bank as i32, Src::PrgRom)
+}
+
+fn map_rom(chip: Namco163, m: Memory) -> Memory
+    requires { ⌜ Sized m ⌝ }
+    ensures { λ r. ⌜ (r ≡ mapRom chip m) × (Sized r) ⌝ }
+{
+    let at_8000 = map_bank(m, 0x8000, chip.prg_banks[0]);
+    let at_a000 = map_bank(at_8000, 0xA000, chip.prg_banks[1]);
+    let at_c000 = map_bank(at_a000, 0xC000, chip.prg_banks[2]);
+    at_c000.map_prg(0xE000, Memory::PRG_WINDOW, -1, Src::PrgRom)
+}
+
+fn map_work_ram(chip: Namco163, m: Memory) -> Memory
+    requires { ⌜ Sized m ⌝ }
+    ensures { λ r. ⌜ r ≡ mapWorkRam chip m ⌝ }
+{
+    let board = chip.board;
+    if board.prg_ram_readable() {
+        let writable = board.prg_ram_writable(chip.regs.prg_ram_protect);
+        let mapped = m.map_prg(0x6000, Memory::PRG_WINDOW, 0, Src::PrgRam);
+        return mapped.set_prg_writable(0x6000, Memory::PRG_WINDOW, writable);
+    }
+    m.unmap_prg(0x6000, Memory::PRG_WINDOW)
+}
+
+pub fn update_banks(chip: Namco163, m: Memory) -> Memory
+    requires { ⌜ Sized m ⌝ }
+    ensures { λ r. ⌜ r ≡ updateBanks chip m ⌝ }
+{
+    let chr = map_chr_table(chip, m);
+    let rom = map_rom(chip, chr);
+    map_work_ram(chip, rom)
+}

@@ -1,0 +1,123 @@
+// Register writes by their address: 4800..7FFF, and which functions have the rest.
+ghost use mathlib.Core.Path.{_≡_};
+ghost use Prim.Native.Nat.{_≤_, _<_};
+ghost use Rattle.board_registers.specs.Writes.{writeSoundData, writeCounterLow, writeCounterHigh, writeWorkRam, writeChip, remaps};
+use board_chip::namco163::Board;
+use board_chip::namco163::Namco163;
+use board_chr::slots;
+use board_prg::banks;
+
+// 4800..4FFF: the sound port's data.
+fn write_sound_data(chip: Namco163, addr: u16, val: u8) -> Namco163
+    requires { ⌜ chip .audio .addr < 128 ⌝ }
+    ensures { λ r. ⌜ r ≡ writeSoundData chip addr val ⌝ }
+{
+    let mut next = chip.maybe_set_board(Board::Namco163);
+    let audio = next.audio;
+    let written = audio.write_register(addr, val);
+    next.audio = written;
+    next
+}
+
+// 5000..57FF: the counter's low byte.
+fn write_counter_low(chip: Namco163, val: u8) -> Namco163
+    ensures { λ r. ⌜ r ≡ writeCounterLow chip val ⌝ }
+{
+    let mut next = chip.maybe_set_board(Board::Namco163);
+    let mut regs = next.regs;
+    regs.irq_counter = regs.irq_counter / 256 * 256 + (val as u16);
+    regs.irq_pending = false;
+    next.regs = regs;
+    next
+}
+
+// 5800..5FFF: the counter's high byte, with the enable in bit 7.
+fn write_counter_high(chip: Namco163, val: u8) -> Namco163
+    ensures { λ r. ⌜ r ≡ writeCounterHigh chip val ⌝ }
+{
+    let mut next = chip.maybe_set_board(Board::Namco163);
+    let mut regs = next.regs;
+    regs.irq_counter = regs.irq_counter % 256 + (val as u16) * 256;
+    regs.irq_pending = false;
+    next.regs = regs;
+    next
+}
+
+// 6000..7FFF: only the flag. The Rust's step from 340 to Unknown never acts, since the flag is set before it.
+fn write_work_ram(mut chip: Namco163) -> Namco163
+    ensures { λ r. ⌜ r ≡ writeWorkRam chip ⌝ }
+{
+    chip.prg_ram_written_to = true;
+    chip
+}
+
+// 4800..7FFF.
+fn write_low(chip: Namco163, addr: u16, val: u8) -> Namco163
+    requires { ⌜ (addr < 0x8000) × (chip .audio .addr < 128) ⌝ }
+    ensures { λ r. ⌜ r ≡ writeChip chip addr val ⌝ }
+{
+    if addr < 0x4800 {
+        return chip;
+    }
+    if addr < 0x5000 {
+        return write_sound_data(chip, addr, val);
+    }
+    if addr < 0x5800 {
+        return write_counter_low(chip, val);
+    }
+    if addr < 0x6000 {
+        return write_counter_high(chip, val);
+    }
+    write_work_ram(chip)
+}
+
+// 8000..FFFF.
+fn write_high(chip: Namco163, addr: u16, val: u8) -> Namco163
+    requires { ⌜ (0x8000 ≤ addr) × (chip .audio .addr < 128) ⌝ }
+    ensures { λ r. ⌜ r ≡ writeChip chip addr val ⌝ }
+{
+    if addr < 0xC000 {
+        return slots::write_slot(chip, addr, val);
+    }
+    if addr < 0xC800 {
+        return slots::write_c000(chip, addr, val);
+    }
+    if addr < 0xE000 {
+        return slots::write_c800(chip, addr, val);
+    }
+    if addr < 0xE800 {
+        return banks::write_e000(chip, addr, val);
+    }
+    if addr < 0xF000 {
+        return banks::write_e800(chip, val);
+    }
+    if addr < 0xF800 {
+        return banks::write_f000(chip, val);
+    }
+    banks::write_f800(chip, addr, val)
+}
+
+// The registers after a write. The tables are mapped anew where `remaps` says so.
+pub fn write_register(chip: Namco163, addr: u16, val: u8) -> Namco163
+    requires { ⌜ chip .audio .addr < 128 ⌝ }
+    ensures { λ r. ⌜ r ≡ writeChip chip addr val ⌝ }
+{
+    if addr < 0x8000 {
+        return write_low(chip, addr, val);
+    }
+    write_high(chip, addr, val)
+}
+
+// Whether a write maps the tables anew: one to 8000..F7FF, also where the register kept its value, or one that changed the board.
+pub fn remaps(old: Board, new: Board, addr: u16) -> bool
+    ensures { λ r. ⌜ r ≡ remaps old new addr ⌝ }
+{
+    let changed = old.num() != new.num();
+    if addr < 0x8000 {
+        return changed;
+    }
+    if addr < 0xF800 {
+        return true;
+    }
+    changed
+}

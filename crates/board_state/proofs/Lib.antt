@@ -1,0 +1,3 @@
+pub mod AudioRange
+pub mod TablesRange
+pub mod StateRange

@@ -1,0 +1,44 @@
+// The state, and whether it is in range.
+use board_chip::namco163::Namco163;
+use memory::Memory;
+ghost use mathlib.Core.Path.{_≡_};
+ghost use Rattle.limits.specs.Every.{every};
+ghost use Rattle.board_state.specs.State.{bankTest, mapperOk, chipOk, inRange};
+
+pub mod audio; // audio.rt: the sound's fields
+pub mod tables; // tables.rt: the layout, the used battery length and the entries
+
+// The board's state. Its bytes lie in an arena that the caller lends.
+pub struct State {
+    pub chip: Namco163,
+    pub memory: Memory,
+}
+
+fn banks_ok(banks: [u8; 3]) -> bool
+    ensures { λ r. ⌜ r ≡ every 3 (bankTest banks) ⌝ }
+{
+    ((banks[0] <= 63) & (banks[1] <= 63)) & (banks[2] <= 63)
+}
+
+fn mapper_ok(mapper: u16) -> bool
+    ensures { λ r. ⌜ r ≡ mapperOk mapper ⌝ }
+{
+    (mapper == 19) | (mapper == 210)
+}
+
+fn chip_ok(chip: Namco163) -> bool
+    ensures { λ r. ⌜ r ≡ chipOk chip ⌝ }
+{
+    let banks = chip.prg_banks;
+    let sound = chip.audio;
+    mapper_ok(chip.mapper_num) & (banks_ok(banks) & audio::audio_ok(sound))
+}
+
+// Whether each field is in range, floats and entries too.
+pub fn in_range(s: State) -> bool
+    ensures { λ r. ⌜ r ≡ inRange s ⌝ }
+{
+    let chip = s.chip;
+    let m = s.memory;
+    chip_ok(chip) & tables::memory_ok(m)
+}

@@ -1,0 +1,144 @@
+// Reset, and the battery.
+use board_chip::reset::ResetKind;
+use memory::layout::Src;
+use call_refusals::battery_refusal;
+use call_refusals::reset_refusal;
+use sound::audio::Audio;
+use board_state::State;
+ghost use mathlib.Core.Path.{_≡_};
+ghost use Prim.Native.Nat.{_+_, _≤_};
+ghost use lib.ListN.{length, take, drop};
+ghost use Rattle.memory.specs.declared.layout.Src.the-variants.{BatteryExt};
+ghost use Rattle.memory.specs.Bytes.{overlay};
+ghost use Rattle.memory.specs.Memory.{Sized, regionIn};
+ghost use Rattle.call_refusals.specs.Refusals.{firstOf, batteryChecks};
+ghost use Rattle.call_battery.specs.Battery.{kindOf, resetState, syncArena, restoreState};
+
+// The answer of a call that may alter the state.
+pub struct Altered {
+    pub refusal: u8,
+    pub state: State,
+}
+
+fn kind_of(kind: u64) -> ResetKind
+    ensures { λ r. ⌜ r ≡ kindOf kind ⌝ }
+{
+    if kind == 0 {
+        return ResetKind::Soft;
+    }
+    ResetKind::Hard
+}
+
+// Kind 0 is soft, 1 is hard. No page entry changes until the next remapping.
+pub fn reset(s: State, kind: u64) -> Altered
+    ensures { λ r. ⌜ r ≡ resetState s kind ⌝ }
+{
+    let q = reset_refusal(s, kind);
+    if q != 0 {
+        return Altered {
+            refusal: q,
+            state: s,
+        };
+    }
+    let chip = s.chip;
+    let next = chip.reset(kind_of(kind));
+    let mut after = s;
+    after.chip = next;
+    Altered {
+        refusal: 0,
+        state: after,
+    }
+}
+
+// Where the battery's used bytes begin in the arena.
+fn battery_start(s: State) -> usize
+    requires { ⌜ Sized (s .memory) ⌝ }
+    ensures { λ r. ⌜ r ≡ regionIn (s .memory) BatteryExt .start ⌝ }
+{
+    let m = s.memory;
+    let layout = m.layout;
+    let region = layout.region(m.battery_ext_len, Src::BatteryExt);
+    region.start
+}
+
+// Copies the sound RAM over 128 bytes.
+fn put_ram(part: &mut [u8], audio: Audio)
+    requires { ⌜ length (now part) ≡ 128 ⌝ }
+    ensures { λ _. ⌜ now (part .exit) ≡ audio .ram ⌝ }
+{
+    let ram = audio.ram;
+    let mut i: usize = 0;
+    while i < 128 {
+        part[i] = ram[i];
+        i += 1;
+    }
+}
+
+fn get_ram(part: &[u8]) -> [u8; Audio::RAM_SIZE]
+    requires { ⌜ length (now part) ≡ 128 ⌝ }
+    ensures { λ r. ⌜ r ≡ now (part .entry) ⌝ }
+{
+    let mut ram = [0u8; Audio::RAM_SIZE];
+    let mut i: usize = 0;
+    while i < 128 {
+        ram[i] = part[i];
+        i += 1;
+    }
+    ram
+}
+
+// Lends the 128 bytes of the arena from a place on to the copy.
+fn put_battery(arena: &mut [u8], at: usize, audio: Audio)
+    requires { ⌜ at + 128 ≤ length (now arena) ⌝ }
+    ensures { λ _. ⌜ now (arena .exit) ≡ overlay (now (arena .entry)) at (audio .ram) ⌝ }
+{
+    let end = at + Audio::RAM_SIZE;
+    put_ram(&mut arena[at..end], audio);
+}
+
+fn get_battery(arena: &[u8], at: usize) -> [u8; Audio::RAM_SIZE]
+    requires { ⌜ at + 128 ≤ length (now arena) ⌝ }
+    ensures { λ r. ⌜ r ≡ take 128 (drop at (now (arena .entry))) ⌝ }
+{
+    let end = at + Audio::RAM_SIZE;
+    get_ram(&arena[at..end])
+}
+
+// Copies the sound RAM into the arena's battery part. Answers the refusal number.
+pub fn sync_battery(s: State, arena: &mut [u8]) -> u8
+    ensures { λ r. ⌜ (r ≡ firstOf (batteryChecks s (length (now (arena .entry))))) × (now (arena .exit) ≡ syncArena s (now (arena .entry))) ⌝ }
+{
+    let q = battery_refusal(s, arena.len());
+    if q != 0 {
+        return q;
+    }
+    let at = battery_start(s);
+    let chip = s.chip;
+    let audio = chip.audio;
+    put_battery(arena, at, audio);
+    0
+}
+
+pub fn restore_battery(s: State, arena: &[u8]) -> Altered
+    ensures { λ r. ⌜ r ≡ restoreState s (now (arena .entry)) ⌝ }
+{
+    let q = battery_refusal(s, arena.len());
+    if q != 0 {
+        return Altered {
+            refusal: q,
+            state: s,
+        };
+    }
+    let at = battery_start(s);
+    let ram = get_battery(arena, at);
+    let mut chip = s.chip;
+    let mut audio = chip.audio;
+    audio.ram = ram;
+    chip.audio = audio;
+    let mut after = s;
+    after.chip = chip;
+    Altered {
+        refusal: 0,
+        state: after,
+    }
+}

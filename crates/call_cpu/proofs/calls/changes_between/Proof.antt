@@ -1,0 +1,12 @@
+-- `changes_between` meets its contract.
+use borrow.Author.Needs.{needs}
+use Rattle.call_cpu.specs.Calls.{changes}
+use Rattle.call_cpu.proofs.calls.changes_between.Statement.{statement}
+use Rattle.call_cpu.proofs.calls.changes_between.Tie as tie
+
+returns : tie.Need-returns
+unfolding changes
+returns c = rw (c .chr-changes .ensures, c .before .prg-changes .ensures)
+
+pub changes-between-spec : {M : Type 1} → statement M
+changes-between-spec = tie.close (tie.spec (λ c κs. search needs) (λ c κs. search needs) returns)

@@ -1,0 +1,117 @@
+// The public calls on the PPU's side and on regions: CHR read and write, fill, `region_peek`, `region_write` and `sram`. None has a `requires`: what does not
+// fit is refused by its number, and nothing is altered.
+use memory::layout::Src;
+use call_refusals::arena_refusal;
+use call_refusals::fill_refusal;
+use call_refusals::state_refusal;
+use board_state::State;
+ghost use mathlib.Core.Path.{_≡_};
+ghost use lib.ListN.{length};
+ghost use Rattle.call_refusals.specs.Refusals.{firstOf, arenaChecks, fillChecks};
+ghost use Rattle.call_regions.specs.Regions.{chrRead, chrWriteArena, fillArena, regionRead, regionWriteArena, sramAnswer};
+
+// The answer of a read that changes nothing. In each answer `refusal` is 0 for accepted.
+pub struct Peeked {
+    pub refusal: u8,
+    pub byte: u8,
+}
+
+// Where PRG-RAM lies in the arena, with the used battery bytes behind it.
+pub struct BatterySpan {
+    pub refusal: u8,
+    pub start: usize,
+    pub len: usize,
+}
+
+pub fn chr_read(s: State, arena: &[u8], addr: u16) -> Peeked
+    ensures { λ r. ⌜ r ≡ chrRead s (now (arena .entry)) addr ⌝ }
+{
+    let q = arena_refusal(s, arena.len());
+    if q != 0 {
+        return Peeked {
+            refusal: q,
+            byte: 0,
+        };
+    }
+    let m = s.memory;
+    Peeked {
+        refusal: 0,
+        byte: m.chr_peek(arena, addr),
+    }
+}
+
+// Answers the refusal number.
+pub fn chr_write(s: State, arena: &mut [u8], addr: u16, val: u8) -> u8
+    ensures { λ r. ⌜ (r ≡ firstOf (arenaChecks s (length (now (arena .entry))))) × (now (arena .exit) ≡ chrWriteArena s (now (arena .entry)) addr val) ⌝ }
+{
+    let q = arena_refusal(s, arena.len());
+    if q != 0 {
+        return q;
+    }
+    let m = s.memory;
+    m.chr_write(arena, addr, val);
+    0
+}
+
+// Copies bytes to a region's start. Answers the refusal number.
+pub fn fill(s: State, arena: &mut [u8], src: Src, bytes: &[u8]) -> u8
+    ensures { λ r. ⌜ (r ≡ firstOf (fillChecks s (length (now (arena .entry))) src (length (now (bytes .entry))))) × (now (arena .exit) ≡ fillArena s (now (arena .entry)) src (now (bytes .entry))) ⌝ }
+{
+    let q = fill_refusal(s, arena.len(), src, bytes.len());
+    if q != 0 {
+        return q;
+    }
+    let m = s.memory;
+    m.fill(arena, src, bytes);
+    0
+}
+
+pub fn region_peek(s: State, arena: &[u8], src: Src, offset: u64) -> Peeked
+    ensures { λ r. ⌜ r ≡ regionRead s (now (arena .entry)) src offset ⌝ }
+{
+    let q = arena_refusal(s, arena.len());
+    if q != 0 {
+        return Peeked {
+            refusal: q,
+            byte: 0,
+        };
+    }
+    let m = s.memory;
+    Peeked {
+        refusal: 0,
+        byte: m.region_peek(arena, src, offset),
+    }
+}
+
+// Answers the refusal number.
+pub fn region_write(s: State, arena: &mut [u8], src: Src, offset: u64, val: u8) -> u8
+    ensures { λ r. ⌜ (r ≡ firstOf (arenaChecks s (length (now (arena .entry))))) × (now (arena .exit) ≡ regionWriteArena s (now (arena .entry)) src offset val) ⌝ }
+{
+    let q = arena_refusal(s, arena.len());
+    if q != 0 {
+        return q;
+    }
+    let m = s.memory;
+    m.region_write(arena, src, offset, val);
+    0
+}
+
+pub fn sram(s: State) -> BatterySpan
+    ensures { λ r. ⌜ r ≡ sramAnswer s ⌝ }
+{
+    let q = state_refusal(s);
+    if q != 0 {
+        return BatterySpan {
+            refusal: q,
+            start: 0,
+            len: 0,
+        };
+    }
+    let m = s.memory;
+    let span = m.sram();
+    BatterySpan {
+        refusal: 0,
+        start: span.start,
+        len: span.len,
+    }
+}

@@ -1,0 +1,67 @@
+-- `accepted_run` meets its contract: n single clocks in closed form, by the board.
+use mathlib.Core.Path.{_≡_, sym, _∙_}
+use mathlib.Core.Bool.{true}
+use lib.ListN.{length}
+use borrow.Author.Needs.{needs}
+use borrow.Author.Tests.{eq-eqb, ne-eqb}
+use Rattle.board_chip.specs.Namco163.{is163}
+use Rattle.board_state.proofs.StateRange.{sound-ok}
+use Rattle.call_run.specs.Run.{runGave}
+use Rattle.call_run.proofs.run.Laws.{sounds-state, sounds-samples, silent-state, silent-samples, rise-is, run-good}
+use Rattle.call_run.proofs.run.accepted_run.Statement.{statement}
+use Rattle.call_run.proofs.run.accepted_run.Tie as tie
+
+returns : tie.Need-returns
+unfolding runGave
+returns c =
+    let c1 = c .before in let c3 = c1 .before .before in let c7 = c3 .before .before .before .before in
+    let a = c7 .args in let p = ne-eqb _ _ (λ e. c .if1 .taken (c1 .num .ensures .0 ∙ e)) in (
+      rw (
+        c7 .pre,
+        silent-state (a .n) (a .s) p,
+        silent-samples (a .n) (a .s) p,
+        rise-is (a .n) (a .s),
+        c3 .run-counter .ensures .0,
+        c3 .run-counter .ensures .1,
+      ),
+      rw (c7 .pre, silent-samples (a .n) (a .s) p),
+    )
+
+is-163 : (c : tie.Else1) → is163 (c .before .before .before .before .before .before .before .args .s .chip .board) ≡ true
+is-163 c = eq-eqb _ _ (sym (c .before .num .ensures .0) ∙ c .if1 .left)
+
+run-sound-requires : tie.Need-run-sound-requires
+run-sound-requires c κs =
+    let c2 = c .before .before in let c9 = c2 .before .before .before .before .before .before .before in
+    let a = c9 .args in let g = run-good (a .s) (a .n) (length (a .samples .now)) (c9 .pre) in
+    (sound-ok (a .s) (g .good), rw (← sounds-samples (a .n) (a .s) (is-163 c2)) (g .enough))
+
+returns-2 : tie.Need-returns-2
+unfolding runGave
+returns-2 c =
+    let c3 = c .before .before .before in let c6 = c3 .before .before .before in
+    let c9 = c6 .before .before .before in let c13 = c9 .before .before .before .before in
+    let a = c13 .args in let p = is-163 c6 in let r = c3 .run-sound .ensures in (
+      rw (
+        c13 .pre,
+        sounds-state (a .n) (a .s) p,
+        sounds-samples (a .n) (a .s) p,
+        rise-is (a .n) (a .s),
+        c9 .run-counter .ensures .0,
+        c9 .run-counter .ensures .1,
+        r .0 .0,
+        r .0 .1,
+      ),
+      rw (c13 .pre, sounds-samples (a .n) (a .s) p) (r .1),
+    )
+
+pub accepted-run-spec : {M : Type 1} → statement M
+accepted-run-spec =
+    tie.close
+    (tie.spec
+    (λ c κs. search needs)  -- run-counter-requires
+    (λ c κs. search needs)  -- num-requires
+    returns
+    run-sound-requires
+    (λ c. search needs)  -- same-length
+    returns-2)

@@ -1,0 +1,43 @@
+-- 01 "Clock, reset, battery": the single clock of demand 3, and n clocks of the counter.
+use Prim.Native.Nat.{ℕ, zero, suc, _+_}
+use mathlib.Core.Bool.{cond}
+use mathlib.Core.Option.{Option, some, none}
+use lib.Dec.{eqb}
+use lib.Ieee.{Float}
+use Rattle.cut.specs.Counter.{risesFrom}
+use Rattle.cut.specs.Machine.{Clocked}
+use Rattle.sound.specs.declared.audio.Audio.{Audio}
+use Rattle.sound.specs.Clock.{soundClock}
+use Rattle.sound.specs.Mix.{outputOf}
+use Rattle.board_chip.specs.declared.namco163.Regs.{Regs}
+use Rattle.board_chip.specs.declared.namco163.Namco163.{Namco163}
+use Rattle.board_chip.specs.Namco163.{is163, withRegs, withAudio}
+use Rattle.board_chip.specs.Clock.{clockCounter}
+use Rattle.board_state.specs.declared.State.{State}
+use Rattle.board_state.specs.State.{withChip}
+
+-- "at 15 it goes to 0, the current channel makes its update .. and `output` is one sample": the sample of one sound clock
+unfoldable pub soundSample : Audio → Option Float
+soundSample a = cond (a .disabled) none (cond (eqb (a .«update_counter» + 1) 15) (some (outputOf (soundClock a .out))) none)
+
+-- "Then, on a 163 only, one sound clock"
+unfoldable pub chipClock : Namco163 → Clocked Namco163 Float
+chipClock n =
+    let m = withRegs n (clockCounter (n .regs)) in
+    let rises = risesFrom (n .regs .«irq_counter») in
+    cond (is163 (n .board))
+    (record { state = withAudio m (soundClock (n .audio)); sample = soundSample (n .audio); rise = rises })
+    (record { state = m; sample = none; rise = rises })
+
+-- the same of a state, whose memory a clock leaves
+unfoldable pub stateClock : State → Clocked State Float
+stateClock s = let c = chipClock (s .chip) in record { state = withChip s (c .state); sample = c .sample; rise = c .rise }
+
+-- n clocks of the counter, and the clock of them, from 1, on which it reached FFFF, or 0
+unfoldable pub counterRun : ℕ → Regs → Regs
+counterRun zero r = r
+counterRun (suc n) r = clockCounter (counterRun n r)
+
+unfoldable pub counterRise : ℕ → Regs → ℕ
+counterRise zero r = 0
+counterRise (suc n) r = cond (risesFrom (counterRun n r .«irq_counter»)) (suc n) (counterRise n r)

@@ -1,0 +1,121 @@
+// The public run.
+use crate::clock::run_counter;
+use sound::audio::Audio;
+use sound::run::SoundRan;
+use board_state::State;
+use board_state::in_range;
+ghost use mathlib.Core.Path.{_≡_};
+ghost use mathlib.Core.Bool.{true};
+ghost use mathlib.Core.List.{_++_};
+ghost use Prim.Native.Nat.{_≤_};
+ghost use lib.ListN.{length, drop};
+ghost use Rattle.sound.specs.Run.{soundRun, samplesOf};
+ghost use Rattle.call_refusals.specs.Refusals.{firstOf};
+ghost use Rattle.board_state.specs.Audio.{audioOk};
+ghost use Rattle.board_state.specs.State.{inRange};
+ghost use Rattle.call_run.specs.Run.{made, runChecks, runGave, ranOf};
+
+// A run's answer: its refusal or 0, the samples made, the clock of the rise, from 1, or 0, and the state.
+pub struct Ran {
+    pub refusal: u8,
+    pub made: usize,
+    pub rise: u32,
+    pub state: State,
+}
+
+// How many samples n clocks make.
+fn samples_made(s: State, n: u32) -> usize
+    requires { ⌜ inRange s ≡ true ⌝ }
+    ensures { λ r. ⌜ r ≡ made n s ⌝ }
+{
+    let chip = s.chip;
+    let board = chip.board;
+    if board.num() != 1 {
+        return 0;
+    }
+    if chip.audio.disabled {
+        return 0;
+    }
+    ((chip.audio.update_counter as usize) + (n as usize)) / 15
+}
+
+fn run_refusal(good: bool, s: State, n: u64, room: usize) -> u8
+    requires { ⌜ good ≡ inRange s ⌝ }
+    ensures { λ r. ⌜ r ≡ firstOf (runChecks s n room) ⌝ }
+{
+    if good {
+        if 65536 < n {
+            return 10;
+        }
+        if room < samples_made(s, n as u32) {
+            return 11;
+        }
+        return 0;
+    }
+    2
+}
+
+// The sound's clocks, by updates.
+fn run_sound(audio: Audio, n: u32, samples: &mut [f32]) -> SoundRan
+    requires { ⌜ (audioOk audio ≡ true) × (length (samplesOf n audio) ≤ length (now samples)) ⌝ }
+    ensures { λ r. ⌜ (r .audio ≡ soundRun n audio) × (r .made ≡ length (samplesOf n audio)) ⌝ }
+    ensures { λ r. ⌜ now (samples .exit) ≡ samplesOf n audio ++ drop (length (samplesOf n audio)) (now (samples .entry)) ⌝ }
+{
+    audio.run(n, samples)
+}
+
+fn accepted_run(s: State, n: u32, samples: &mut [f32]) -> Ran
+    requires { ⌜ firstOf (runChecks s n (length (now samples))) ≡ 0 ⌝ }
+    ensures { λ r. ⌜ (r ≡ ranOf (runGave s n (now (samples .entry)))) × (now (samples .exit) ≡ runGave s n (now (samples .entry)) .samples) ⌝ }
+{
+    let mut chip = s.chip;
+    let regs = chip.regs;
+    let counted = run_counter(regs, n);
+    let next = counted.regs;
+    chip.regs = next;
+    let board = chip.board;
+    let mut after = s;
+    if board.num() != 1 {
+        after.chip = chip;
+        return Ran {
+            refusal: 0,
+            made: 0,
+            rise: counted.rise,
+            state: after,
+        };
+    }
+    let audio = chip.audio;
+    let ran = run_sound(audio, n, samples);
+    let sound = ran.audio;
+    chip.audio = sound;
+    after.chip = chip;
+    Ran {
+        refusal: 0,
+        made: ran.made,
+        rise: counted.rise,
+        state: after,
+    }
+}
+
+// Whether the state is in range is given, for a caller that knows it.
+pub fn run_of(good: bool, s: State, n: u64, samples: &mut [f32]) -> Ran
+    requires { ⌜ good ≡ inRange s ⌝ }
+    ensures { λ r. ⌜ (r ≡ ranOf (runGave s n (now (samples .entry)))) × (now (samples .exit) ≡ runGave s n (now (samples .entry)) .samples) ⌝ }
+{
+    let q = run_refusal(good, s, n, samples.len());
+    if q != 0 {
+        return Ran {
+            refusal: q,
+            made: 0,
+            rise: 0,
+            state: s,
+        };
+    }
+    accepted_run(s, n as u32, samples)
+}
+
+pub fn run(s: State, n: u64, samples: &mut [f32]) -> Ran
+    ensures { λ r. ⌜ (r ≡ ranOf (runGave s n (now (samples .entry)))) × (now (samples .exit) ≡ runGave s n (now (samples .entry)) .samples) ⌝ }
+{
+    run_of(in_range(s), s, n, samples)
+}

@@ -1,0 +1,132 @@
+-- 01 "Host and image": "The image is 307 bytes, bit-packed, most significant first": the widths of its fields and a state's values for them, in 01's
+-- order, as lists of parts. "Arrays go from index 0."
+use Prim.Native.Nat.{ℕ, _/_}
+use mathlib.Core.List.{List, [], _∷_, _++_, map}
+use lib.Dec.{eqb}
+use lib.Ieee.{Float, binary32, toBits}
+use lib.ListN.{getD, replicate}
+use Rattle.bits.specs.Fields.{pack, bit, times, each}
+use Rattle.bits.specs.Words.{bytesOf}
+use Rattle.bits.specs.declared.cursor.Cursor.{Cursor}
+use Rattle.memory.specs.declared.Memory.{Memory}
+use Rattle.memory.specs.declared.page.Page.{Page}
+use Rattle.memory.specs.Mirroring.{mirroringNum}
+use Rattle.memory.specs.Page.{offsetOf, writableOf}
+use Rattle.sound.specs.declared.audio.Audio.{Audio}
+use Rattle.board_chip.specs.declared.namco163.Namco163.{Namco163}
+use Rattle.board_chip.specs.Namco163.{boardNum}
+use Rattle.board_state.specs.declared.State.{State}
+use Rattle.board_state.specs.Audio.{wholePart}
+
+-- "The image is 307 bytes"
+abbrev pub imageBytes : ℕ
+imageBytes = 307
+
+-- ---- the board: "counter 16, pending 1, selects low, high 1+1, protect 8, board 2 (Unknown, 163, 175, 340), mapper 16, submapper 8, detecting 1,
+-- mirroring 3 (Rust's numbers), written 1, CIRAM flags 12, CHR banks 12 times 8, PRG banks 3 times 6"
+
+abbrev pub chipWidths : List (List ℕ)
+chipWidths =
+    (16 ∷ 1 ∷ 1 ∷ 1 ∷ 8 ∷ 2 ∷ 16 ∷ 8 ∷ [])
+    ∷ (1 ∷ 3 ∷ 1 ∷ [])
+    ∷ replicate 12 1
+    ∷ replicate 12 8
+    ∷ replicate 3 6
+    ∷ []
+
+abbrev pub chipFields : Namco163 → List (List ℕ)
+chipFields n =
+    (n .regs .«irq_counter»
+    ∷ bit (n .regs .«irq_pending»)
+    ∷ bit (n .regs .«nt_select_lo»)
+    ∷ bit (n .regs .«nt_select_hi»)
+    ∷ n .regs .«prg_ram_protect»
+    ∷ boardNum (n .board)
+    ∷ n .«mapper_num»
+    ∷ n .«submapper_num»
+    ∷ [])
+    ∷ (bit (n .«auto_detect_board») ∷ mirroringNum (n .mirroring) ∷ bit (n .«prg_ram_written_to») ∷ [])
+    ∷ map bit (n .«nt_bank_enable»)
+    ∷ n .«chr_banks»
+    ∷ n .«prg_banks»
+    ∷ []
+
+-- ---- the sound: "sound RAM 128 times 8, address 7, auto 1, disabled 1, update counter 4, channel 3, outputs 8 times 12, `out` 32, phases 8 times 24"
+
+abbrev pub soundWidths : List (List ℕ)
+soundWidths = replicate 128 8 ∷ (7 ∷ 1 ∷ 1 ∷ 4 ∷ 3 ∷ []) ∷ replicate 8 12 ∷ (32 ∷ []) ∷ replicate 8 24 ∷ []
+
+-- a channel output as its whole number
+abbrev pub levelNum : Float → ℕ
+levelNum x = wholePart (toBits binary32 x)
+
+abbrev pub soundFields : Audio → List (List ℕ)
+soundFields a =
+    a .ram
+    ∷ (a .addr ∷ bit (a .«auto_increment») ∷ bit (a .disabled) ∷ a .«update_counter» ∷ a .«current_channel» ∷ [])
+    ∷ map levelNum (a .«channel_out»)
+    ∷ (toBits binary32 (a .out) ∷ [])
+    ∷ a .«phase_ext»
+    ∷ []
+
+-- ---- the memory: "entries PRG then CHR 80 times (page number 10, writable 1); pages of PRG-ROM 10, PRG-RAM 7, reserve 1, CHR 9, CHR-RAM flag 1, CIRAM 3,
+-- battery used 1"
+
+abbrev pub pageWidths : List ℕ
+pageWidths = 10 ∷ 1 ∷ []
+
+abbrev pub pageFields : Page → List ℕ
+pageFields p = offsetOf p / 1024 ∷ bit (writableOf p) ∷ []
+
+abbrev pub layoutWidths : List ℕ
+layoutWidths = 10 ∷ 7 ∷ 1 ∷ 9 ∷ 1 ∷ 3 ∷ 1 ∷ []
+
+abbrev pub layoutFields : Memory → List ℕ
+layoutFields m =
+    m .layout .«prg_rom»
+    ∷ m .layout .«prg_ram»
+    ∷ m .layout .«battery_ext»
+    ∷ m .layout .chr
+    ∷ bit (m .layout .«chr_writable»)
+    ∷ m .layout .ciram
+    ∷ bit (eqb (m .«battery_ext_len») 128)
+    ∷ []
+
+abbrev pub memoryWidths : List (List ℕ)
+memoryWidths = times 64 pageWidths ∷ times 16 pageWidths ∷ layoutWidths ∷ []
+
+abbrev pub memoryFields : Memory → List (List ℕ)
+memoryFields m = each pageFields (m .«prg_pages») ∷ each pageFields (m .«chr_pages») ∷ layoutFields m ∷ []
+
+-- ---- the whole
+
+-- part k of 01's order
+abbrev pub part : List (List ℕ) → ℕ → List ℕ
+part ps k = getD ps k []
+
+abbrev pub partWidths : List (List ℕ)
+partWidths = chipWidths ++ (soundWidths ++ memoryWidths)
+
+abbrev pub partFields : State → List (List ℕ)
+partFields s = chipFields (s .chip) ++ (soundFields (s .chip .audio) ++ memoryFields (s .memory))
+
+-- parts one behind the other
+unfoldable pub joined : List (List ℕ) → List ℕ
+joined [] = []
+joined (x ∷ xs) = x ++ joined xs
+
+-- the widths of all fields, in 01's order
+unfoldable pub widths : List ℕ
+widths = joined partWidths
+
+-- and a state's values for them
+unfoldable pub fields : State → List ℕ
+fields s = joined (partFields s)
+
+-- the image of a state: its fields "bit-packed, most significant first"
+unfoldable pub imageOf : State → List ℕ
+imageOf s = bytesOf imageBytes (pack widths (fields s))
+
+-- a place at the start of a byte
+abbrev pub byteAt : ℕ → Cursor
+byteAt k = record { acc = 0; n = 0; at = k }

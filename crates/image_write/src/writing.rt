@@ -1,0 +1,206 @@
+// A state to its image. The parts that start at a byte's start begin from their own place.
+use crate::pages::put_chr_pages;
+use crate::pages::put_prg_pages;
+use crate::words::banks_word;
+use crate::words::flags_word;
+use crate::words::kind_word;
+use crate::words::layout_word;
+use crate::words::port_word;
+use crate::words::regs_word;
+use bits::cursor::Cursor;
+use bits::cursor::put;
+use bits::cursor::put_bytes;
+use bits::cursor::put_run;
+use board_chip::namco163::Namco163;
+use memory::Memory;
+use sound::audio::Audio;
+use board_state::State;
+use board_state::audio::whole_part;
+use board_state::in_range;
+ghost use mathlib.Core.Path.{_≡_};
+ghost use mathlib.Core.Bool.{true};
+ghost use mathlib.Core.List.{[], _∷_, map};
+ghost use Prim.Native.Nat.{_+_, _*_, _<_, _≤_};
+ghost use lib.Ieee.{binary32, toBits};
+ghost use lib.ListN.{length, replicate};
+ghost use Rattle.bits.specs.Cursor.{Held, Wrote};
+ghost use Rattle.limits.specs.Every.{every};
+ghost use Rattle.board_state.specs.State.{bankTest, inRange};
+ghost use Rattle.board_state.specs.Audio.{outOk, outputTest, phaseTest, audioOk};
+ghost use Rattle.board_state.specs.Tables.{memoryOk};
+ghost use Rattle.image_write.specs.Image.{imageBytes, chipWidths, chipFields, soundWidths, soundFields, levelNum, memoryWidths, memoryFields, joined, imageOf, byteAt};
+ghost use Rattle.image_write.specs.Writing.{writeRefusal, writtenImage};
+
+// The twelve CHR banks, a byte each, from any bit on.
+fn put_chr_banks(img: &mut [u8], w: Cursor, banks: [u8; 12]) -> Cursor
+    requires { ⌜ Held w ⌝ }
+    requires { ⌜ w .at * 8 + w .n + 96 ≤ length (now img) * 8 ⌝ }
+    ensures { λ r. ⌜ Wrote (now (img .entry)) (now (img .exit)) w r (replicate 12 8) banks ⌝ }
+{
+    let mut c = w;
+    let mut i: usize = 0;
+    while i < 12 {
+        let bank = banks[i];
+        c = put(img, c, 8, bank as u64);
+        i += 1;
+    }
+    c
+}
+
+// The channel outputs as whole numbers.
+fn put_levels(img: &mut [u8], outs: [f32; 8])
+    requires { ⌜ (length (now img) ≡ imageBytes) × (every 8 (outputTest outs) ≡ true) ⌝ }
+    ensures { λ _. ⌜ Wrote (now (img .entry)) (now (img .exit)) (byteAt 153) (byteAt 165) (replicate 8 12) (map levelNum outs) ⌝ }
+{
+    let mut c = Cursor {
+        acc: 0,
+        n: 0,
+        at: 153,
+    };
+    let mut i: usize = 0;
+    while i < 8 {
+        let x = outs[i];
+        let bits = f32::to_bits(x);
+        c = put(img, c, 12, whole_part(bits) as u64);
+        i += 1;
+    }
+}
+
+fn put_ram(img: &mut [u8], ram: [u8; 128])
+    requires { ⌜ length (now img) ≡ imageBytes ⌝ }
+    ensures { λ _. ⌜ Wrote (now (img .entry)) (now (img .exit)) (byteAt 23) (byteAt 151) (replicate 128 8) ram ⌝ }
+{
+    let c = Cursor {
+        acc: 0,
+        n: 0,
+        at: 23,
+    };
+    put_bytes(img, c, &ram);
+}
+
+fn put_out(img: &mut [u8], x: f32)
+    requires { ⌜ (length (now img) ≡ imageBytes) × (outOk x ≡ true) ⌝ }
+    ensures { λ _. ⌜ Wrote (now (img .entry)) (now (img .exit)) (byteAt 165) (byteAt 169) (32 ∷ []) (toBits binary32 x ∷ []) ⌝ }
+{
+    let c = Cursor {
+        acc: 0,
+        n: 0,
+        at: 165,
+    };
+    let bits = f32::to_bits(x);
+    put(img, c, 32, bits as u64);
+}
+
+fn put_phases(img: &mut [u8], phases: [u32; 8])
+    requires { ⌜ (length (now img) ≡ imageBytes) × (every 8 (phaseTest phases) ≡ true) ⌝ }
+    ensures { λ _. ⌜ Wrote (now (img .entry)) (now (img .exit)) (byteAt 169) (byteAt 193) (replicate 8 24) phases ⌝ }
+{
+    let c = Cursor {
+        acc: 0,
+        n: 0,
+        at: 169,
+    };
+    put_run(img, c, 24, &phases);
+}
+
+fn put_chip(img: &mut [u8], chip: Namco163)
+    requires { ⌜ (length (now img) ≡ imageBytes) × (every 3 (bankTest (chip .«prg_banks»)) ≡ true) ⌝ }
+    ensures { λ _. ⌜ Wrote (now (img .entry)) (now (img .exit)) (byteAt 0) (byteAt 23) (joined chipWidths) (joined (chipFields chip)) ⌝ }
+{
+    let regs = chip.regs;
+    let board = chip.board;
+    let w0 = Cursor {
+        acc: 0,
+        n: 0,
+        at: 0,
+    };
+    let w1 = put(
+        img,
+        w0,
+        53,
+        regs_word(regs, board, chip.mapper_num, chip.submapper_num),
+    );
+    let mirroring = chip.mirroring;
+    let w2 = put(
+        img,
+        w1,
+        5,
+        kind_word(chip.auto_detect_board, mirroring, chip.prg_ram_written_to),
+    );
+    let flags = chip.nt_bank_enable;
+    let w3 = put(img, w2, 12, flags_word(flags));
+    let chr = chip.chr_banks;
+    let w4 = put_chr_banks(img, w3, chr);
+    let prg = chip.prg_banks;
+    put(img, w4, 18, banks_word(prg));
+}
+
+fn put_sound(img: &mut [u8], audio: Audio)
+    requires { ⌜ (length (now img) ≡ imageBytes) × (audioOk audio ≡ true) ⌝ }
+    ensures { λ _. ⌜ Wrote (now (img .entry)) (now (img .exit)) (byteAt 23) (byteAt 193) (joined soundWidths) (joined (soundFields audio)) ⌝ }
+{
+    let ram = audio.ram;
+    put_ram(img, ram);
+    let c = Cursor {
+        acc: 0,
+        n: 0,
+        at: 151,
+    };
+    let word = port_word(
+        audio.addr,
+        audio.auto_increment,
+        audio.disabled,
+        audio.update_counter,
+        audio.current_channel,
+    );
+    put(img, c, 16, word);
+    let outs = audio.channel_out;
+    put_levels(img, outs);
+    let out = audio.out;
+    put_out(img, out);
+    let phases = audio.phase_ext;
+    put_phases(img, phases);
+}
+
+fn put_memory(img: &mut [u8], m: Memory)
+    requires { ⌜ (length (now img) ≡ imageBytes) × (memoryOk m ≡ true) ⌝ }
+    ensures { λ _. ⌜ Wrote (now (img .entry)) (now (img .exit)) (byteAt 193) (byteAt 307) (joined memoryWidths) (joined (memoryFields m)) ⌝ }
+{
+    let prg = m.prg_pages;
+    put_prg_pages(img, prg);
+    let chr = m.chr_pages;
+    put_chr_pages(img, chr);
+    let c = Cursor {
+        acc: 0,
+        n: 0,
+        at: 303,
+    };
+    put(img, c, 32, layout_word(m));
+}
+
+// The image of a state that is known to be in range.
+pub fn put_state(img: &mut [u8], s: State)
+    requires { ⌜ (length (now img) ≡ imageBytes) × (inRange s ≡ true) ⌝ }
+    ensures { λ _. ⌜ now (img .exit) ≡ imageOf s ⌝ }
+{
+    let chip = s.chip;
+    put_chip(img, chip);
+    let audio = chip.audio;
+    put_sound(img, audio);
+    let m = s.memory;
+    put_memory(img, m);
+}
+
+// Writes a state's image over the lent bytes. Answers the refusal number.
+pub fn write_image(s: State, img: &mut [u8]) -> u8
+    ensures { λ r. ⌜ (r ≡ writeRefusal s (length (now (img .entry)))) × (now (img .exit) ≡ writtenImage s (now (img .entry))) ⌝ }
+{
+    if img.len() != 307 {
+        return 1;
+    }
+    if in_range(s) {
+        put_state(img, s);
+        return 0;
+    }
+    2
+}

@@ -1,0 +1,224 @@
+// Each call on the cartridge, and its answer.
+use crate::player::Player;
+use crate::player::within;
+use replay_answers::answers;
+use replay_calls::call::Call;
+use replay_calls::call::Cartridge;
+use call_run::run::Ran;
+use image_write::writing::write_image;
+use memory::layout::Layout;
+use memory::layout::MemoryLayout;
+use memory::layout::Src;
+use call_cpu::calls as board;
+use board_state::State;
+
+// The length of the arena that a load is lent: none for a layout over a limit.
+fn arena_len(sizes: MemoryLayout) -> usize {
+    if sizes.within_limits() {
+        let layout = Layout::new(sizes);
+        return layout.arena_len();
+    }
+    0
+}
+
+// A refused load leaves the old cartridge, whose bytes lie in the same array.
+pub fn load(mut p: Player, arena: &mut [u8], out: &mut [u8], cartridge: Cartridge) -> Player {
+    let sizes = cartridge.sizes;
+    let n = within(arena_len(sizes), arena);
+    let r = call_load::load(
+        &mut arena[..n],
+        cartridge.mapper,
+        cartridge.submapper,
+        cartridge.flags,
+        cartridge.known,
+        sizes,
+    );
+    let at = p.out_len;
+    p.out_len = answers::ok(out, at, r.refusal);
+    if r.refusal != 0 {
+        return p;
+    }
+    let fresh = r.state;
+    p.state = fresh;
+    p.loaded = true;
+    p.arena_len = n;
+    p
+}
+
+// What a call that may change the state leaves: the state, and where the next byte of the answers goes.
+struct Answered {
+    state: State,
+    at: usize,
+}
+
+fn read(s: State, arena: &[u8], out: &mut [u8], at: usize, addr: u16) -> Answered {
+    let r = board::cpu_read(s, arena, addr);
+    let state = r.state;
+    let next = answers::byte(out, at, r.refusal, r.byte);
+    Answered { state, at: next }
+}
+
+fn write(s: State, arena: &mut [u8], out: &mut [u8], at: usize, addr: u16, val: u8) -> Answered {
+    let r = board::cpu_write(s, arena, addr, val);
+    let state = r.state;
+    let changed = r.changed;
+    let next = answers::written(out, at, r.refusal, changed);
+    Answered { state, at: next }
+}
+
+// Lends the first `room` of the samples.
+fn run_within(s: State, n: u64, room: usize, samples: &mut [f32]) -> Ran {
+    if samples.len() < room {
+        return call_run::run::run(s, n, samples);
+    }
+    call_run::run::run(s, n, &mut samples[..room])
+}
+
+fn run(s: State, out: &mut [u8], at: usize, n: u64, room: usize) -> Answered {
+    let mut samples = [0.0f32; 8192];
+    let r = run_within(s, n, room, &mut samples);
+    let state = r.state;
+    if r.refusal != 0 {
+        let next = answers::refused(out, at, r.refusal);
+        return Answered { state, at: next };
+    }
+    let next = answers::ran(out, at, r.rise, r.made, &samples);
+    Answered { state, at: next }
+}
+
+fn reset(s: State, out: &mut [u8], at: usize, kind: u64) -> Answered {
+    let r = call_battery::reset(s, kind);
+    let state = r.state;
+    let next = answers::ok(out, at, r.refusal);
+    Answered { state, at: next }
+}
+
+fn restore_battery(s: State, arena: &[u8], out: &mut [u8], at: usize) -> Answered {
+    let r = call_battery::restore_battery(s, arena);
+    let state = r.state;
+    let next = answers::ok(out, at, r.refusal);
+    Answered { state, at: next }
+}
+
+// The calls that may change the state; `answer` hands it no other.
+fn changing(s: State, call: Call, arena: &mut [u8], out: &mut [u8], at: usize) -> Answered {
+    match call {
+        Call::Read(addr) => read(s, arena, out, at, addr),
+        Call::Write(addr, val) => write(s, arena, out, at, addr, val),
+        Call::Run(n, room) => run(s, out, at, n, room),
+        Call::Reset(kind) => reset(s, out, at, kind),
+        Call::RestoreBattery => restore_battery(s, arena, out, at),
+        _ => Answered { state: s, at },
+    }
+}
+
+fn peek(s: State, arena: &[u8], out: &mut [u8], at: usize, addr: u16) -> usize {
+    let r = board::cpu_peek(s, arena, addr);
+    answers::byte(out, at, r.refusal, r.byte)
+}
+
+fn chr_read(s: State, arena: &[u8], out: &mut [u8], at: usize, addr: u16) -> usize {
+    let r = call_regions::chr_read(s, arena, addr);
+    answers::byte(out, at, r.refusal, r.byte)
+}
+
+fn chr_write(s: State, arena: &mut [u8], out: &mut [u8], at: usize, addr: u16, val: u8) -> usize {
+    let refusal = call_regions::chr_write(s, arena, addr, val);
+    answers::ok(out, at, refusal)
+}
+
+// The first n of the bytes.
+fn fill(
+    s: State,
+    arena: &mut [u8],
+    out: &mut [u8],
+    at: usize,
+    src: Src,
+    bytes: &[u8],
+    n: usize,
+) -> usize {
+    let named = within(n, bytes);
+    let refusal = call_regions::fill(s, arena, src, &bytes[..named]);
+    answers::ok(out, at, refusal)
+}
+
+fn region_peek(s: State, arena: &[u8], out: &mut [u8], at: usize, src: Src, offset: u64) -> usize {
+    let r = call_regions::region_peek(s, arena, src, offset);
+    answers::byte(out, at, r.refusal, r.byte)
+}
+
+fn region_write(
+    s: State,
+    arena: &mut [u8],
+    out: &mut [u8],
+    at: usize,
+    src: Src,
+    offset: u64,
+    val: u8,
+) -> usize {
+    let refusal = call_regions::region_write(s, arena, src, offset, val);
+    answers::ok(out, at, refusal)
+}
+
+fn sram(s: State, out: &mut [u8], at: usize) -> usize {
+    let r = call_regions::sram(s);
+    answers::pair(out, at, r.refusal, r.start as u64, r.len as u64)
+}
+
+fn sync_battery(s: State, arena: &mut [u8], out: &mut [u8], at: usize) -> usize {
+    let refusal = call_battery::sync_battery(s, arena);
+    answers::ok(out, at, refusal)
+}
+
+fn image(s: State, out: &mut [u8], at: usize) -> usize {
+    let mut img = [0u8; 307];
+    let refusal = write_image(s, &mut img);
+    answers::image(out, at, refusal, &img)
+}
+
+// The calls that leave the state as it is, and `answer` hands it no other: answers where the next byte of the answers goes.
+fn keeping(
+    s: State,
+    call: Call,
+    arena: &mut [u8],
+    bytes: &[u8],
+    out: &mut [u8],
+    at: usize,
+) -> usize {
+    match call {
+        Call::Peek(addr) => peek(s, arena, out, at, addr),
+        Call::ChrRead(addr) => chr_read(s, arena, out, at, addr),
+        Call::ChrWrite(addr, val) => chr_write(s, arena, out, at, addr, val),
+        Call::Fill(src, n) => fill(s, arena, out, at, src, bytes, n),
+        Call::RegionPeek(src, offset) => region_peek(s, arena, out, at, src, offset),
+        Call::RegionWrite(src, offset, val) => region_write(s, arena, out, at, src, offset, val),
+        Call::Sram => sram(s, out, at),
+        Call::SyncBattery => sync_battery(s, arena, out, at),
+        Call::Image => image(s, out, at),
+        Call::Arena => answers::arena(out, at, arena),
+        _ => at,
+    }
+}
+
+// A call on the loaded cartridge, whose arena is lent.
+pub fn answer(mut p: Player, call: Call, arena: &mut [u8], bytes: &[u8], out: &mut [u8]) -> Player {
+    let s = p.state;
+    let at = p.out_len;
+    match call {
+        Call::Read(_)
+        | Call::Write(_, _)
+        | Call::Run(_, _)
+        | Call::Reset(_)
+        | Call::RestoreBattery => {
+            let r = changing(s, call, arena, out, at);
+            let after = r.state;
+            p.state = after;
+            p.out_len = r.at;
+            p
+        }
+        _ => {
+            p.out_len = keeping(s, call, arena, bytes, out, at);
+            p
+        }
+    }
+}

@@ -1,4 +1,0 @@
-pub mod Every
-pub mod AudioRange
-pub mod TablesRange
-pub mod StateRange

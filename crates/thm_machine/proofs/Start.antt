@@ -1,0 +1,23 @@
+-- An accepted load leaves a fresh state and a zeroed arena of the layout's length.
+use mathlib.Core.Path.{_≡_}
+use native.Mathlib.Omega.{arith}
+use borrow.Author.Tests.{eqb-true}
+use lib.Dec.{eqb}
+use lib.ListN.{length}
+use Rattle.memory.specs.Layout.{layoutOf, arenaLen}
+use Rattle.limits.proofs.Every.{was-true}
+use Rattle.call_load.specs.Cartridge.{loadAnswer, loadArena}
+use Rattle.call_refusals.specs.Refusals.{loadChecks}
+use Rattle.call_refusals.proofs.Laws.{accepted-none}
+use Rattle.thm_machine.specs.Start.{Loaded, loaded, zeroed}
+
+long : (l : Loaded) → length (l .arena) ≡ arenaLen (layoutOf (l .sizes))
+long l =
+    let h = accepted-none (loadChecks (l .mapper) (l .sizes) (length (l .arena)))
+    (omega arith, (omega arith, (omega arith, (omega arith, tt)))) (l .accepted) in
+    eqb-true (length (l .arena)) (arenaLen (layoutOf (l .sizes)))
+    (was-true (eqb (length (l .arena)) (arenaLen (layoutOf (l .sizes)))) (h .1 .1 .1 .0))
+
+pub load-starts : (l : Loaded) → loaded l ≡ zeroed l
+unfolding loadAnswer loadArena
+load-starts l = rw (l .accepted, long l)

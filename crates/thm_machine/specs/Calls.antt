@@ -1,0 +1,36 @@
+-- The calls of a list other than runs, with their arguments: "The calls after a load are CPU read, peek and write, CHR read and write, fill, `region_peek`,
+-- `region_write`, `sram`, run, reset, battery sync and restore, and image writing."
+use Prim.Native.Nat.{ℕ}
+use mathlib.Core.List.{List}
+use Rattle.memory.specs.declared.layout.Src.{Src}
+use Rattle.board_state.specs.declared.State.{State}
+use Rattle.call_cpu.specs.declared.calls.Changed.{Changed}
+
+-- what is handed from call to call: the state, and the bytes of the arena
+pub record Held : Type 0 where
+  pub state : State
+  pub arena : List ℕ
+
+-- "Arguments are all else that is lent, as it stands at the call." A reset carries the host's number, image writing the lent buffer.
+pub data Other : Type 0 where
+  cpuRead : ℕ → Other
+  cpuPeek : ℕ → Other
+  cpuWrite : ℕ → ℕ → Other
+  chrRead : ℕ → Other
+  chrWrite : ℕ → ℕ → Other
+  fill : Src → List ℕ → Other
+  regionPeek : Src → ℕ → Other
+  regionWrite : Src → ℕ → ℕ → Other
+  sram : Other
+  reset : ℕ → Other
+  syncBattery : Other
+  restoreBattery : Other
+  writeImage : List ℕ → Other
+
+-- the answer of an accepted call besides its number: a byte, the changed pages, a start and a length, the written image bytes, or nothing
+pub data Answer : Type 0 where
+  byte : ℕ → Answer
+  changed : Changed → Answer
+  span : ℕ → ℕ → Answer
+  image : List ℕ → Answer
+  done : Answer

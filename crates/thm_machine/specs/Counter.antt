@@ -1,0 +1,38 @@
+-- The counter and the line, and the calls that write the counter or reset it.
+use Prim.Native.Nat.{ℕ}
+use mathlib.Core.Bool.{Bool, true, false, _&&_}
+use mathlib.Core.List.{List, [], _∷_}
+use mathlib.Core.Path.{_≡_}
+use lib.Dec.{leb}
+use lib.Ieee.{Float}
+use Rattle.cut.specs.Calls.{Call, run, other}
+use Rattle.thm_machine.specs.Calls.{Held, Other, cpuRead, cpuPeek, cpuWrite, chrRead, chrWrite, fill, regionPeek, regionWrite, sram, reset, syncBattery, restoreBattery, writeImage}
+
+-- "The line is the pending flag."
+abbrev pub counterOf : Held → ℕ
+counterOf h = h .state .chip .regs .«irq_counter»
+
+abbrev pub lineOf : Held → Bool
+lineOf h = h .state .chip .regs .«irq_pending»
+
+-- "neither written nor reset": a CPU write to 5000..5FFF, or a reset
+abbrev pub touches : Other → Bool
+touches (cpuRead addr) = false
+touches (cpuPeek addr) = false
+touches (cpuWrite addr v) = leb 0x5000 addr && leb addr 0x5FFF
+touches (chrRead addr) = false
+touches (chrWrite addr v) = false
+touches (fill src bytes) = false
+touches (regionPeek src offset) = false
+touches (regionWrite src offset v) = false
+touches sram = false
+touches (reset kind) = true
+touches syncBattery = false
+touches restoreBattery = false
+touches (writeImage buffer) = false
+
+-- no call of the list does
+abbrev pub NoneTouches : List (Call Float Other) → Type 0
+NoneTouches [] = Unit {0}
+NoneTouches (run n lent ∷ calls) = NoneTouches calls
+NoneTouches (other a ∷ calls) = (touches a ≡ false) × NoneTouches calls

@@ -1,0 +1,141 @@
+-- 01's list of refusals, a theorem for each number: a call answers it exactly where its condition holds and none of those that the call checks before it. They
+-- hold of every list of checks that begins so; `Decided` of proofs/Decided.antt says which calls make them. Assumes nothing.
+use Prim.Native.Nat.{ℕ, _<_}
+use mathlib.Core.Path.{_≡_, refl}
+use mathlib.Core.Bool.{Bool, true, false, not, _&&_}
+use mathlib.Core.List.{List, [], _∷_, _++_}
+use mathlib.Core.Logic.{_↔_}
+use borrow.Author.Tests.{eq-eqb, ne-eqb, eqb-true, eqb-false, lt-ltb, ltb-true}
+use lib.Dec.{eqb}
+use Rattle.memory.specs.declared.layout.MemoryLayout.{MemoryLayout}
+use Rattle.memory.specs.declared.layout.Src.{Src}
+use Rattle.memory.specs.Layout.{withinLimits, layoutOf, arenaLen}
+use Rattle.memory.specs.Memory.{regionIn}
+use Rattle.board_state.specs.declared.State.{State}
+use Rattle.board_state.specs.State.{mapperOk, inRange}
+use Rattle.limits.proofs.Every.{and-left, and-right, both, was-true, was-false}
+use Rattle.call_refusals.specs.Refusals.{Check, firstOf, stateCheck, kindCheck, mapperCheck, sizesCheck, reserveCheck, arenaCheck, addressCheck, fillCheck, batteryCheck, resetChecks, arenaChecks, cpuChecks, fillChecks, batteryChecks, loadChecks}
+use Rattle.thm_range.proofs.Decided.{Decided, reset-decided, cpu-decided, fill-decided, battery-decided, load-decided}
+
+-- what a test says of its negation
+passes : (b : Bool) → b ≡ true → not b ≡ false
+passes b h = rw h
+
+fails : (b : Bool) → b ≡ false → not b ≡ true
+fails b h = rw h
+
+-- "2. A state or image field is out of range.": in every call that takes a state
+pub refused-2 : (s : State) (rest : List Check) → Decided (stateCheck s ∷ rest)
+    → (firstOf (stateCheck s ∷ rest) ≡ 2) ↔ (inRange s ≡ false)
+refused-2 s rest d =
+    let r = d .refused [] rest (stateCheck s) refl in
+    ((λ e. was-false (inRange s) (r .0 e .1)), (λ h. r .1 (tt, rw h)))
+
+-- "3. A host reset kind is neither 0 (soft) nor 1 (hard)."
+pub refused-3 : (s : State) (kind : ℕ) → (firstOf (resetChecks s kind) ≡ 3) ↔ ((inRange s ≡ true) × (1 < kind))
+refused-3 s kind =
+    let r = reset-decided s kind .refused (stateCheck s ∷ []) [] (kindCheck kind) refl in (
+      (λ e. let h = r .0 e in (was-true (inRange s) (h .0 .0), ltb-true 1 kind (h .1))),
+      (λ h. r .1 ((rw (h .0), tt), lt-ltb 1 kind (h .1))),
+    )
+
+-- "4. A load names a mapper other than 19 or 210."
+pub refused-4 : (mapper : ℕ) (sizes : MemoryLayout) (len : ℕ) → (firstOf (loadChecks mapper sizes len) ≡ 4) ↔ (mapperOk mapper ≡ false)
+refused-4 mapper sizes len =
+    let r = load-decided mapper sizes len .refused []
+    (sizesCheck sizes ∷ reserveCheck mapper sizes ∷ arenaCheck (arenaLen (layoutOf sizes)) len ∷ []) (mapperCheck mapper) refl in
+    ((λ e. was-false (mapperOk mapper) (r .0 e .1)), (λ h. r .1 (tt, fails (mapperOk mapper) h)))
+
+-- "5. A layout size is above its limit."
+pub refused-5 : (mapper : ℕ) (sizes : MemoryLayout) (len : ℕ)
+    → (firstOf (loadChecks mapper sizes len) ≡ 5) ↔ ((mapperOk mapper ≡ true) × (withinLimits sizes ≡ false))
+refused-5 mapper sizes len =
+    let r = load-decided mapper sizes len .refused (mapperCheck mapper ∷ [])
+    (reserveCheck mapper sizes ∷ arenaCheck (arenaLen (layoutOf sizes)) len ∷ []) (sizesCheck sizes) refl in (
+      (λ e. let h = r .0 e in (was-true (mapperOk mapper) (h .0 .0), was-false (withinLimits sizes) (h .1))),
+      (λ h. r .1 ((passes (mapperOk mapper) (h .0), tt), rw (h .1))),
+    )
+
+-- "6. A 163 load has a battery reserve of 0."
+pub refused-6 : (mapper : ℕ) (sizes : MemoryLayout) (len : ℕ)
+    → (firstOf (loadChecks mapper sizes len) ≡ 6) ↔ ((withinLimits sizes ≡ true) × ((mapper ≡ 19) × (sizes .«battery_ext» ≡ 0)))
+refused-6 mapper sizes len =
+    let r = load-decided mapper sizes len .refused (mapperCheck mapper ∷ sizesCheck sizes ∷ [])
+    (arenaCheck (arenaLen (layoutOf sizes)) len ∷ []) (reserveCheck mapper sizes) refl in (
+      (λ e.
+          let h = r .0 e in (
+            was-true (withinLimits sizes) (h .0 .1 .0),
+            (
+              eqb-true mapper 19 (and-left (eqb mapper 19) _ (h .1)),
+              eqb-true (sizes .«battery_ext») 0 (and-right (eqb mapper 19) _ (h .1)),
+            ),
+          )),
+      (λ h. r .1 (
+        (rw (h .1 .0), (rw (h .0), tt)),
+        both (eqb mapper 19) _ (eq-eqb mapper 19 (h .1 .0)) (eq-eqb (sizes .«battery_ext») 0 (h .1 .1)),
+      )),
+    )
+
+-- "7. The arena's length is not the layout's.": in every call that takes state and arena
+pub refused-7 : (s : State) (len : ℕ) (rest : List Check)
+    → Decided (stateCheck s ∷ arenaCheck (arenaLen (s .memory .layout)) len ∷ rest)
+    → (firstOf (stateCheck s ∷ arenaCheck (arenaLen (s .memory .layout)) len ∷ rest) ≡ 7)
+    ↔ ((inRange s ≡ true) × (len ≡ arenaLen (s .memory .layout) → ⊥))
+refused-7 s len rest d =
+    let long = arenaLen (s .memory .layout) in
+    let r = d .refused (stateCheck s ∷ []) rest (arenaCheck long len) refl in (
+      (λ e. let h = r .0 e in (was-true (inRange s) (h .0 .0), eqb-false len long (was-false (eqb len long) (h .1)))),
+      (λ h. r .1 ((rw (h .0), tt), rw (ne-eqb len long (h .1)))),
+    )
+
+-- and in a load
+pub load-refused-7 : (mapper : ℕ) (sizes : MemoryLayout) (len : ℕ)
+    → (firstOf (loadChecks mapper sizes len) ≡ 7)
+    ↔ (((mapperOk mapper ≡ true) × ((withinLimits sizes ≡ true) × (eqb mapper 19 && eqb (sizes .«battery_ext») 0 ≡ false)))
+    × (len ≡ arenaLen (layoutOf sizes) → ⊥))
+load-refused-7 mapper sizes len =
+    let long = arenaLen (layoutOf sizes) in
+    let r = load-decided mapper sizes len .refused (mapperCheck mapper ∷ sizesCheck sizes ∷ reserveCheck mapper sizes ∷ []) []
+    (arenaCheck long len) refl in (
+      (λ e.
+          let h = r .0 e in (
+            (was-true (mapperOk mapper) (h .0 .0), (was-true (withinLimits sizes) (h .0 .1 .0), h .0 .1 .1 .0)),
+            eqb-false len long (was-false (eqb len long) (h .1)),
+          )),
+      (λ h. r .1 ((passes (mapperOk mapper) (h .0 .0), (rw (h .0 .1 .0), (h .0 .1 .1, tt))), rw (ne-eqb len long (h .1)))),
+    )
+
+-- a state in range and an arena of its layout's length: the checks before 8, 9 and 12
+module _ (s : State) (len : ℕ) where
+  abbrev Fits : Type 0
+  Fits = (inRange s ≡ true) × (len ≡ arenaLen (s .memory .layout))
+
+  -- a check behind those of state and arena
+  behind : (c : Check) → Decided (arenaChecks s len ++ c ∷ [])
+      → (firstOf (arenaChecks s len ++ c ∷ []) ≡ c .number) ↔ (Fits × (c .holds ≡ true))
+  behind c d =
+      let long = arenaLen (s .memory .layout) in
+      let r = d .refused (arenaChecks s len) [] c refl in (
+        (λ e. let h = r .0 e in ((was-true (inRange s) (h .0 .0), eqb-true len long (was-true (eqb len long) (h .0 .1 .0))), h .1)),
+        (λ h. r .1 ((rw (h .0 .0), (rw (eq-eqb len long (h .0 .1)), tt)), h .1)),
+      )
+
+  -- "8. A CPU address is below 4800."
+  pub refused-8 : (addr : ℕ) → (firstOf (cpuChecks s len addr) ≡ 8) ↔ (Fits × (addr < 0x4800))
+  refused-8 addr =
+      let r = behind (addressCheck addr) (cpu-decided s len addr) in
+      ((λ e. (r .0 e .0, ltb-true addr 0x4800 (r .0 e .1))), (λ h. r .1 (h .0, lt-ltb addr 0x4800 (h .1))))
+
+  -- "9. A fill is longer than its region."
+  pub refused-9 : (src : Src) (n : ℕ) → (firstOf (fillChecks s len src n) ≡ 9) ↔ (Fits × (regionIn (s .memory) src .len < n))
+  refused-9 src n =
+      let region = regionIn (s .memory) src .len in
+      let r = behind (fillCheck s src n) (fill-decided s len src n) in
+      ((λ e. (r .0 e .0, ltb-true region n (r .0 e .1))), (λ h. r .1 (h .0, lt-ltb region n (h .1))))
+
+  -- "12. Battery sync or restore meets a used length of 0, where the Rust panics."
+  pub refused-12 : (firstOf (batteryChecks s len) ≡ 12) ↔ (Fits × (s .memory .«battery_ext_len» ≡ 0))
+  refused-12 =
+      let used = s .memory .«battery_ext_len» in
+      let r = behind (batteryCheck s) (battery-decided s len) in
+      ((λ e. (r .0 e .0, eqb-true used 0 (r .0 e .1))), (λ h. r .1 (h .0, eq-eqb used 0 (h .1))))
