@@ -13,11 +13,14 @@ use Rattle.board_chip.specs.Reset.{noRegs}
 
 -- "Mapper 19 starts as 163"; "Mapper 210 starts as 175 (submapper 1), 340 (2), else Unknown"
 unfoldable pub boardAtLoad : ℕ → ℕ → Board
-boardAtLoad mapper sub = cond (eqb mapper 19) Is163 (cond (eqb sub 1) Namco175 (cond (eqb sub 2) Namco340 Unknown))
+boardAtLoad mapper sub =
+    cond (eqb mapper 19) Is163 (cond (eqb mapper 210) (cond (eqb sub 1) Namco175 (cond (eqb sub 2) Namco340 Unknown)) Unknown)
 
--- "Mapper 19 starts as 163, detecting if no database entry exists." A 210 of another submapper is detecting even with one.
+-- "Mapper 19 starts as 163, detecting if no database entry exists." A 210 of another submapper is detecting even with one. No other mapper is loaded; the
+-- Rust's match has an arm for it.
 unfoldable pub detectingAtLoad : ℕ → ℕ → Bool → Bool
-detectingAtLoad mapper sub known = cond (eqb mapper 19) (not known) (cond (eqb sub 1) false (cond (eqb sub 2) false true))
+detectingAtLoad mapper sub known =
+    cond (eqb mapper 19) (not known) (cond (eqb mapper 210) (cond (eqb sub 1) false (cond (eqb sub 2) false true)) false)
 
 -- "Flags bit 3 is FourScreen, else bit 0 is Vertical or Horizontal."
 unfoldable pub mirroringAtLoad : ℕ → Mirroring

@@ -1,8 +1,7 @@
 -- The board's fields, and the board with some of them replaced.
 use Prim.Native.Nat.{ℕ}
-use mathlib.Core.Bool.{Bool}
+use mathlib.Core.Bool.{Bool, true, false}
 use mathlib.Core.List.{List}
-use lib.Dec.{eqb}
 use Rattle.memory.specs.declared.mirroring.Mirroring.{Mirroring}
 use Rattle.sound.specs.declared.audio.Audio.{Audio}
 use Rattle.board_chip.specs.declared.namco163.Board.{Board}
@@ -19,13 +18,30 @@ boardNum Namco340 = 3
 
 -- the Rust's `self.board == Board::..`
 abbrev pub is163 : Board → Bool
-is163 b = eqb (boardNum b) 1
+is163 Unknown = false
+is163 Is163 = true
+is163 Namco175 = false
+is163 Namco340 = false
 
 abbrev pub is175 : Board → Bool
-is175 b = eqb (boardNum b) 2
+is175 Unknown = false
+is175 Is163 = false
+is175 Namco175 = true
+is175 Namco340 = false
 
 abbrev pub is340 : Board → Bool
-is340 b = eqb (boardNum b) 3
+is340 Unknown = false
+is340 Is163 = false
+is340 Namco175 = false
+is340 Namco340 = true
+
+-- ---- the windows that the board maps, in bytes
+
+abbrev pub prgWindow : ℕ
+prgWindow = 8192
+
+abbrev pub chrWindow : ℕ
+chrWindow = 1024
 
 -- ---- the board with one field replaced, and the registers likewise
 

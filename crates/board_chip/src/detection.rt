@@ -31,14 +31,15 @@ impl Board {
 }
 
 impl Namco163 {
-    // Whether detection acts: a 340 whose work RAM was written is settled until the next reset.
+    // Whether detection acts: a game that stores into work RAM while the board looks like a 340 has none of the 163's registers in mind, so that board
+    // is settled until the next reset.
     fn may_change(self) -> bool
         ensures { λ r. ⌜ r ≡ mayChange self ⌝ }
     {
         if self.auto_detect_board {
             if self.prg_ram_written_to {
                 let board = self.board;
-                return board.num() != 3;
+                return !board.is_340();
             }
             return true;
         }

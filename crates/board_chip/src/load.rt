@@ -13,6 +13,9 @@ fn board_at_load(mapper: u16, submapper: u8) -> Board
     if mapper == 19 {
         return Board::Namco163;
     }
+    if mapper != 210 {
+        return Board::Unknown;
+    }
     if submapper == 1 {
         return Board::Namco175;
     }
@@ -28,6 +31,9 @@ fn detecting_at_load(mapper: u16, submapper: u8, known: bool) -> bool
 {
     if mapper == 19 {
         return !known;
+    }
+    if mapper != 210 {
+        return false;
     }
     if submapper == 1 {
         return false;

@@ -1,7 +1,7 @@
 // The fields of the board, as the Rust has them, and the board with one of them replaced.
 ghost use mathlib.Core.Path.{_≡_};
 ghost use Prim.Native.Nat.{_<_};
-ghost use Rattle.board_chip.specs.Namco163.{boardNum, withBoard, withMirroring};
+ghost use Rattle.board_chip.specs.Namco163.{boardNum, is163, is175, is340, withBoard, withMirroring};
 use memory::mirroring::Mirroring;
 use sound::audio::Audio;
 
@@ -22,6 +22,39 @@ impl Board {
             Board::Namco163 => 1,
             Board::Namco175 => 2,
             Board::Namco340 => 3,
+        }
+    }
+
+    pub fn is_163(self) -> bool
+        ensures { λ r. ⌜ r ≡ is163 self ⌝ }
+    {
+        match self {
+            Board::Unknown => false,
+            Board::Namco163 => true,
+            Board::Namco175 => false,
+            Board::Namco340 => false,
+        }
+    }
+
+    pub fn is_175(self) -> bool
+        ensures { λ r. ⌜ r ≡ is175 self ⌝ }
+    {
+        match self {
+            Board::Unknown => false,
+            Board::Namco163 => false,
+            Board::Namco175 => true,
+            Board::Namco340 => false,
+        }
+    }
+
+    pub fn is_340(self) -> bool
+        ensures { λ r. ⌜ r ≡ is340 self ⌝ }
+    {
+        match self {
+            Board::Unknown => false,
+            Board::Namco163 => false,
+            Board::Namco175 => false,
+            Board::Namco340 => true,
         }
     }
 }
@@ -51,6 +84,10 @@ pub struct Namco163 {
 }
 
 impl Namco163 {
+    pub const PRG_WINDOW: usize = 8 * 1024;
+
+    pub const CHR_WINDOW: usize = 1024;
+
     pub fn with_board(self, board: Board) -> Namco163
         ensures { λ r. ⌜ r ≡ withBoard self board ⌝ }
     {

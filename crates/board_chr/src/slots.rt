@@ -13,7 +13,7 @@ fn sets_ciram(chip: Namco163, addr: u16, val: u8) -> bool
         return false;
     }
     let board = chip.board;
-    if board.num() != 1 {
+    if !board.is_163() {
         return false;
     }
     if addr < 0xA000 {
@@ -42,19 +42,19 @@ pub fn write_slot(chip: Namco163, addr: u16, val: u8) -> Namco163
     next
 }
 
-// C000..DFFF after detection.
+// C000..DFFF after detection. A 210 has no nametable registers: its mirroring is wired, or a 340's comes from E000, and a slot written here would override
+// it.
 fn write_nametable(chip: Namco163, addr: u16, val: u8) -> Namco163
     requires { ⌜ (0x8000 ≤ addr) × (addr < 0xE000) ⌝ }
     ensures { λ r. ⌜ r ≡ writeNametable chip addr val ⌝ }
 {
     let board = chip.board;
-    let num = board.num();
-    if num == 2 {
+    if board.is_175() {
         let mut next = chip;
         next.regs.prg_ram_protect = val;
         return next;
     }
-    if num == 1 {
+    if board.is_163() {
         return write_slot(chip, addr, val);
     }
     chip
@@ -66,7 +66,7 @@ pub fn write_c000(chip: Namco163, addr: u16, val: u8) -> Namco163
     ensures { λ r. ⌜ r ≡ writeC000 chip addr val ⌝ }
 {
     let board = chip.board;
-    if board.num() == 1 {
+    if board.is_163() {
         return write_nametable(chip, addr, val);
     }
     let next = chip.maybe_set_board(Board::Namco175);

@@ -19,8 +19,8 @@ abbrev pub bit7 : ℕ → Bool
 bit7 v = eqb (v / 128 % 2) 1
 
 -- the mirroring that a 340 takes from bits 6..7
-unfoldable pub mirroringOf : ℕ → Mirroring
-mirroringOf v = cond (ltb v 64) SingleScreenA (cond (ltb v 128) Vertical (cond (ltb v 192) Horizontal SingleScreenB))
+unfoldable pub mirroringE000 : ℕ → Mirroring
+mirroringE000 v = cond (ltb v 64) SingleScreenA (cond (ltb v 128) Vertical (cond (ltb v 192) Horizontal SingleScreenB))
 
 -- E000..E7FF: bit 7, or bit 6 on a board that is not a 163, shows a 340
 unfoldable pub detectE000 : Namco163 → ℕ → Namco163
@@ -32,7 +32,7 @@ writeBank n i v = withPrgBanks n (set (n .«prg_banks») i (v % 64))
 
 -- what bits 6..7 of E000 say to the board: a 340's mirroring, a 163's sound
 unfoldable pub highBitsE000 : Namco163 → ℕ → ℕ → Namco163
-highBitsE000 n a v = cond (is340 (n .board)) (withMirroring n (mirroringOf v)) (cond (is163 (n .board)) (withAudio n (written (n .audio) a v)) n)
+highBitsE000 n a v = cond (is340 (n .board)) (withMirroring n (mirroringE000 v)) (cond (is163 (n .board)) (withAudio n (written (n .audio) a v)) n)
 
 -- E000..E7FF: the bank at 8000, between detection and the high bits
 unfoldable pub writeE000 : Namco163 → ℕ → ℕ → Namco163

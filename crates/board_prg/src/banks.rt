@@ -1,7 +1,7 @@
 // Register writes to E000..FFFF: PRG banks, and what their high bits and F800 say to each board.
 ghost use mathlib.Core.Path.{_≡_};
 ghost use Prim.Native.Nat.{_<_};
-ghost use Rattle.board_prg.specs.Banks.{mirroringOf, detectE000, highBitsE000, writeE000, writeE800, writeF000, writeF800};
+ghost use Rattle.board_prg.specs.Banks.{mirroringE000, detectE000, highBitsE000, writeE000, writeE800, writeF000, writeF800};
 use board_chip::namco163::Board;
 use board_chip::namco163::Namco163;
 use memory::mirroring::Mirroring;
@@ -17,15 +17,15 @@ fn detect_e000(chip: Namco163, val: u8) -> Namco163
         return chip;
     }
     let board = chip.board;
-    if board.num() == 1 {
+    if board.is_163() {
         return chip;
     }
     chip.maybe_set_board(Board::Namco340)
 }
 
 // The mirroring that a 340 takes from the two high bits.
-fn mirroring_of(val: u8) -> Mirroring
-    ensures { λ r. ⌜ r ≡ mirroringOf val ⌝ }
+fn mirroring_e000(val: u8) -> Mirroring
+    ensures { λ r. ⌜ r ≡ mirroringE000 val ⌝ }
 {
     if val < 64 {
         return Mirroring::SingleScreenA;
@@ -44,11 +44,10 @@ fn high_bits_e000(chip: Namco163, addr: u16, val: u8) -> Namco163
     ensures { λ r. ⌜ r ≡ highBitsE000 chip addr val ⌝ }
 {
     let board = chip.board;
-    let num = board.num();
-    if num == 3 {
-        return chip.with_mirroring(mirroring_of(val));
+    if board.is_340() {
+        return chip.with_mirroring(mirroring_e000(val));
     }
-    if num == 1 {
+    if board.is_163() {
         let mut next = chip;
         let audio = next.audio;
         let written = audio.write_register(addr, val);
@@ -75,7 +74,7 @@ pub fn write_e800(chip: Namco163, val: u8) -> Namco163
     let mut next = chip;
     next.prg_banks[1] = val % 64;
     let board = next.board;
-    if board.num() != 1 {
+    if !board.is_163() {
         return next;
     }
     let mut regs = next.regs;
@@ -100,7 +99,7 @@ pub fn write_f800(chip: Namco163, addr: u16, val: u8) -> Namco163
 {
     let mut next = chip.maybe_set_board(Board::Namco163);
     let board = next.board;
-    if board.num() != 1 {
+    if !board.is_163() {
         return next;
     }
     next.regs.prg_ram_protect = val;

@@ -51,64 +51,29 @@ fn write_work_ram(mut chip: Namco163) -> Namco163
     chip
 }
 
-// 4800..7FFF.
-fn write_low(chip: Namco163, addr: u16, val: u8) -> Namco163
-    requires { ⌜ (addr < 0x8000) × (chip .audio .addr < 128) ⌝ }
-    ensures { λ r. ⌜ r ≡ writeChip chip addr val ⌝ }
-{
-    if addr < 0x4800 {
-        return chip;
-    }
-    if addr < 0x5000 {
-        return write_sound_data(chip, addr, val);
-    }
-    if addr < 0x5800 {
-        return write_counter_low(chip, val);
-    }
-    if addr < 0x6000 {
-        return write_counter_high(chip, val);
-    }
-    write_work_ram(chip)
-}
-
-// 8000..FFFF.
-fn write_high(chip: Namco163, addr: u16, val: u8) -> Namco163
-    requires { ⌜ (0x8000 ≤ addr) × (chip .audio .addr < 128) ⌝ }
-    ensures { λ r. ⌜ r ≡ writeChip chip addr val ⌝ }
-{
-    if addr < 0xC000 {
-        return slots::write_slot(chip, addr, val);
-    }
-    if addr < 0xC800 {
-        return slots::write_c000(chip, addr, val);
-    }
-    if addr < 0xE000 {
-        return slots::write_c800(chip, addr, val);
-    }
-    if addr < 0xE800 {
-        return banks::write_e000(chip, addr, val);
-    }
-    if addr < 0xF000 {
-        return banks::write_e800(chip, val);
-    }
-    if addr < 0xF800 {
-        return banks::write_f000(chip, val);
-    }
-    banks::write_f800(chip, addr, val)
-}
-
 // The registers after a write. The tables are mapped anew where `remaps` says so.
 pub fn write_register(chip: Namco163, addr: u16, val: u8) -> Namco163
     requires { ⌜ chip .audio .addr < 128 ⌝ }
     ensures { λ r. ⌜ r ≡ writeChip chip addr val ⌝ }
 {
-    if addr < 0x8000 {
-        return write_low(chip, addr, val);
+    match addr {
+        0x4800..=0x4FFF => write_sound_data(chip, addr, val),
+        0x5000..=0x57FF => write_counter_low(chip, val),
+        0x5800..=0x5FFF => write_counter_high(chip, val),
+        0x6000..=0x7FFF => write_work_ram(chip),
+        0x8000..=0xBFFF => slots::write_slot(chip, addr, val),
+        0xC000..=0xC7FF => slots::write_c000(chip, addr, val),
+        0xC800..=0xDFFF => slots::write_c800(chip, addr, val),
+        0xE000..=0xE7FF => banks::write_e000(chip, addr, val),
+        0xE800..=0xEFFF => banks::write_e800(chip, val),
+        0xF000..=0xF7FF => banks::write_f000(chip, val),
+        0xF800..=0xFFFF => banks::write_f800(chip, addr, val),
+        _ => chip,
     }
-    write_high(chip, addr, val)
 }
 
-// Whether a write maps the tables anew: one to 8000..F7FF, also where the register kept its value, or one that changed the board.
+// Whether a write maps the tables anew: one to 8000..F7FF, also where the register kept its value, or one that changed the board. What is left, the sound
+// port, the counter, work RAM and the port's address, is written far more often than banks are.
 pub fn remaps(old: Board, new: Board, addr: u16) -> bool
     ensures { λ r. ⌜ r ≡ remaps old new addr ⌝ }
 {

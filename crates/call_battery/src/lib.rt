@@ -1,10 +1,10 @@
 // Reset, and the battery.
 use board_chip::reset::ResetKind;
-use memory::layout::Src;
+use board_state::State;
 use call_refusals::battery_refusal;
 use call_refusals::reset_refusal;
+use memory::layout::Src;
 use sound::audio::Audio;
-use board_state::State;
 ghost use mathlib.Core.Path.{_≡_};
 ghost use Prim.Native.Nat.{_+_, _≤_};
 ghost use lib.ListN.{length, take, drop};

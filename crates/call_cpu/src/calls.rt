@@ -1,17 +1,17 @@
 // The CPU's calls: read, peek and write.
 use board_banking::update_banks;
 use board_chip::reads::Served;
+use board_registers::writes;
+use board_state::State;
+use board_state::in_range;
+use call_refusals::cpu_refusal;
+use call_refusals::cpu_refusal_of;
+use call_regions::Peeked;
 use memory::Memory;
 use memory::changes::ChrChanges;
 use memory::changes::PrgChanges;
 use memory::changes::chr_changes;
 use memory::changes::prg_changes;
-use call_refusals::cpu_refusal;
-use call_refusals::cpu_refusal_of;
-use call_regions::Peeked;
-use board_registers::writes;
-use board_state::State;
-use board_state::in_range;
 ghost use mathlib.Core.Path.{_≡_};
 ghost use Prim.Native.Nat.{_<_};
 ghost use Rattle.memory.specs.Bytes.{Backed};

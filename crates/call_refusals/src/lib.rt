@@ -1,9 +1,9 @@
 // The refusal number of each kind of call, 0 for accepted.
+use board_state::State;
+use board_state::in_range;
 use memory::layout::Layout;
 use memory::layout::MemoryLayout;
 use memory::layout::Src;
-use board_state::State;
-use board_state::in_range;
 ghost use mathlib.Core.Path.{_≡_};
 ghost use mathlib.Core.Bool.{_&&_};
 ghost use lib.Dec.{eqb};

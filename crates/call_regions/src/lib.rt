@@ -1,10 +1,10 @@
 // The public calls on the PPU's side and on regions: CHR read and write, fill, `region_peek`, `region_write` and `sram`. None has a `requires`: what does not
 // fit is refused by its number, and nothing is altered.
-use memory::layout::Src;
+use board_state::State;
 use call_refusals::arena_refusal;
 use call_refusals::fill_refusal;
 use call_refusals::state_refusal;
-use board_state::State;
+use memory::layout::Src;
 ghost use mathlib.Core.Path.{_≡_};
 ghost use lib.ListN.{length};
 ghost use Rattle.call_refusals.specs.Refusals.{firstOf, arenaChecks, fillChecks};

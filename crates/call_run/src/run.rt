@@ -1,9 +1,9 @@
 // The public run.
 use crate::clock::run_counter;
-use sound::audio::Audio;
-use sound::run::SoundRan;
 use board_state::State;
 use board_state::in_range;
+use sound::audio::Audio;
+use sound::run::SoundRan;
 ghost use mathlib.Core.Path.{_≡_};
 ghost use mathlib.Core.Bool.{true};
 ghost use mathlib.Core.List.{_++_};

@@ -1,7 +1,7 @@
 // A run for the host: its samples into a buffer, and from there to the host's bytes.
+use board_state::State;
 use call_run::run::Ran;
 use call_run::run::run_of;
-use board_state::State;
 ghost use mathlib.Core.Path.{_≡_};
 ghost use mathlib.Core.Bool.{true, cond, not};
 ghost use mathlib.Core.List.{_++_};

@@ -1,16 +1,16 @@
 // Each call on the cartridge, and its answer.
 use crate::player::Player;
 use crate::player::within;
-use replay_answers::answers;
-use replay_calls::call::Call;
-use replay_calls::call::Cartridge;
+use board_state::State;
+use call_cpu::calls as board;
 use call_run::run::Ran;
 use image_write::writing::write_image;
 use memory::layout::Layout;
 use memory::layout::MemoryLayout;
 use memory::layout::Src;
-use call_cpu::calls as board;
-use board_state::State;
+use replay_answers::answers;
+use replay_calls::call::Call;
+use replay_calls::call::Cartridge;
 
 // The length of the arena that a load is lent: none for a layout over a limit.
 fn arena_len(sizes: MemoryLayout) -> usize {

@@ -24,7 +24,7 @@ returns-3 : tie.Need-returns-3
 unfolding detectE000
 returns-3 c =
     let c1 = c .before in let c2 = c1 .before in
-    rw (ne-eqb _ _ (c2 .before .if1 .left), eq-eqb _ _ (bit6-set c2), ← c1 .num .ensures .0, eq-eqb _ _ (c .if3 .taken))
+    rw (ne-eqb _ _ (c2 .before .if1 .left), eq-eqb _ _ (bit6-set c2), ← c1 .is-163 .ensures, c .if3 .taken)
 
 returns-4 : tie.Need-returns-4
 unfolding detectE000
@@ -33,8 +33,8 @@ returns-4 c =
     rw (
       ne-eqb _ _ (c3 .before .if1 .left),
       eq-eqb _ _ (bit6-set c3),
-      ← c2 .num .ensures .0,
-      ne-eqb _ _ (c1 .if3 .left),
+      ← c2 .is-163 .ensures,
+      c1 .if3 .left,
       c .maybe-set-board2 .ensures,
     )
 
@@ -45,7 +45,7 @@ detect-e000-spec =
     (λ c κs. search needs)  -- maybe-set-board-requires
     returns
     returns-2
-    (λ c κs. search needs)  -- num-requires
+    (λ c κs. search needs)  -- is-163-requires
     returns-3
     (λ c κs. search needs)  -- maybe-set-board-requires-2
     returns-4)

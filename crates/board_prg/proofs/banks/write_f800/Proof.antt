@@ -1,6 +1,6 @@
 -- `write_f800` meets its contract.
 use borrow.Author.Needs.{needs}
-use borrow.Author.Tests.{eq-eqb, ne-eqb}
+use borrow.Author.Tests.{not-true, not-false}
 use Rattle.board_prg.specs.Banks.{writeF800}
 use Rattle.board_chip.proofs.Kept.{maybe-audio}
 use Rattle.board_prg.proofs.banks.write_f800.Statement.{statement}
@@ -8,7 +8,7 @@ use Rattle.board_prg.proofs.banks.write_f800.Tie as tie
 
 returns : tie.Need-returns
 unfolding writeF800
-returns c = rw (← c .before .before .maybe-set-board .ensures, ← c .before .num .ensures .0, ne-eqb _ _ (c .if1 .taken))
+returns c = rw (← c .before .before .maybe-set-board .ensures, ← c .before .is-163 .ensures, not-true (c .before .is-163 .result) (c .if1 .taken))
 
 write-register-requires : tie.Need-write-register-requires
 write-register-requires c κs =
@@ -19,14 +19,14 @@ returns-2 : tie.Need-returns-2
 unfolding writeF800
 returns-2 c =
     let c3 = c .before .before .before in let c4 = c3 .before in let c5 = c4 .before in
-    rw (← c5 .maybe-set-board .ensures, ← c4 .num .ensures .0, eq-eqb _ _ (c3 .if1 .left), c .write-register .ensures)
+    rw (← c5 .maybe-set-board .ensures, ← c4 .is-163 .ensures, not-false (c4 .is-163 .result) (c3 .if1 .left), c .write-register .ensures)
 
 pub write-f800-spec : {M : Type 1} → statement M
 write-f800-spec =
     tie.close
     (tie.spec
     (λ c κs. search needs)  -- maybe-set-board-requires
-    (λ c κs. search needs)  -- num-requires
+    (λ c κs. search needs)  -- is-163-requires
     returns
     write-register-requires
     returns-2)

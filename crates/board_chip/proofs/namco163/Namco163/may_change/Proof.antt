@@ -6,7 +6,7 @@ use Rattle.board_chip.proofs.namco163.Namco163.may_change.Tie as tie
 
 returns : tie.Need-returns
 unfolding mayChange
-returns c = rw (c .before .before .if1 .taken, c .before .if2 .taken, c .num .ensures .0)
+returns c = rw (c .before .before .if1 .taken, c .before .if2 .taken, c .is-340 .ensures)
 
 returns-2 : tie.Need-returns-2
 unfolding mayChange
