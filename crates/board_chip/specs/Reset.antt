@@ -11,11 +11,6 @@ use Rattle.board_chip.specs.declared.reset.ResetKind.{ResetKind}
 use Rattle.board_chip.specs.declared.reset.ResetKind.the-variants.{Soft, Hard}
 use Rattle.board_chip.specs.Namco163.{withRegs, withAudio, withWritten, withSlots}
 
--- the host's number of each kind
-abbrev pub kindNum : ResetKind → ℕ
-kindNum Soft = 0
-kindNum Hard = 1
-
 -- the Rust's `Regs::default`
 abbrev pub noRegs : Regs
 noRegs = record { «irq_counter» = 0; «irq_pending» = false; «nt_select_lo» = false; «nt_select_hi» = false; «prg_ram_protect» = 0 }

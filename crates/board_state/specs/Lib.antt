@@ -2,3 +2,4 @@
 pub mod Audio
 pub mod Tables
 pub mod State
+pub mod None

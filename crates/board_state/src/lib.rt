@@ -5,6 +5,7 @@ ghost use mathlib.Core.Path.{_≡_};
 ghost use Rattle.limits.specs.Every.{every};
 ghost use Rattle.board_state.specs.State.{bankTest, mapperOk, chipOk, inRange};
 
+pub mod none; // none.rt: the state of a refused load
 pub mod audio; // audio.rt: the sound's fields
 pub mod tables; // tables.rt: the layout, the used battery length and the entries
 
@@ -20,7 +21,7 @@ fn banks_ok(banks: [u8; 3]) -> bool
     ((banks[0] <= 63) & (banks[1] <= 63)) & (banks[2] <= 63)
 }
 
-fn mapper_ok(mapper: u16) -> bool
+pub fn mapper_ok(mapper: u64) -> bool
     ensures { λ r. ⌜ r ≡ mapperOk mapper ⌝ }
 {
     (mapper == 19) | (mapper == 210)
@@ -31,7 +32,7 @@ fn chip_ok(chip: Namco163) -> bool
 {
     let banks = chip.prg_banks;
     let sound = chip.audio;
-    mapper_ok(chip.mapper_num) & (banks_ok(banks) & audio::audio_ok(sound))
+    mapper_ok(chip.mapper_num as u64) & (banks_ok(banks) & audio::audio_ok(sound))
 }
 
 // Whether each field is in range, floats and entries too.

@@ -1,8 +1,7 @@
-// Reset, and the battery.
-use board_chip::reset::ResetKind;
+// The battery: the sound RAM to its part of the arena, and back.
 use board_state::State;
+use call_answers::Altered;
 use call_refusals::battery_refusal;
-use call_refusals::reset_refusal;
 use memory::layout::Src;
 use sound::audio::Audio;
 ghost use mathlib.Core.Path.{_≡_};
@@ -12,43 +11,7 @@ ghost use Rattle.memory.specs.declared.layout.Src.the-variants.{BatteryExt};
 ghost use Rattle.memory.specs.Bytes.{overlay};
 ghost use Rattle.memory.specs.Memory.{Sized, regionIn};
 ghost use Rattle.call_refusals.specs.Refusals.{firstOf, batteryChecks};
-ghost use Rattle.call_battery.specs.Battery.{kindOf, resetState, syncArena, restoreState};
-
-// The answer of a call that may alter the state.
-pub struct Altered {
-    pub refusal: u8,
-    pub state: State,
-}
-
-fn kind_of(kind: u64) -> ResetKind
-    ensures { λ r. ⌜ r ≡ kindOf kind ⌝ }
-{
-    if kind == 0 {
-        return ResetKind::Soft;
-    }
-    ResetKind::Hard
-}
-
-// Kind 0 is soft, 1 is hard. No page entry changes until the next remapping.
-pub fn reset(s: State, kind: u64) -> Altered
-    ensures { λ r. ⌜ r ≡ resetState s kind ⌝ }
-{
-    let q = reset_refusal(s, kind);
-    if q != 0 {
-        return Altered {
-            refusal: q,
-            state: s,
-        };
-    }
-    let chip = s.chip;
-    let next = chip.reset(kind_of(kind));
-    let mut after = s;
-    after.chip = next;
-    Altered {
-        refusal: 0,
-        state: after,
-    }
-}
+ghost use Rattle.call_battery.specs.Battery.{syncArena, restoreState};
 
 // Where the battery's used bytes begin in the arena.
 fn battery_start(s: State) -> usize

@@ -1,21 +1,17 @@
 // Load: a cartridge's numbers to a fresh state, and the arena to zeros.
 use board_banking::update_banks;
-use board_chip::namco163::Board;
 use board_chip::namco163::Namco163;
-use board_chip::namco163::Regs;
 use board_state::State;
+use board_state::none::no_state;
 use call_refusals::load_refusal;
 use memory::Memory;
-use memory::layout::Layout;
 use memory::layout::MemoryLayout;
-use memory::mirroring::Mirroring;
-use memory::page::Page;
 use sound::audio::Audio;
 ghost use mathlib.Core.Path.{_≡_};
 ghost use mathlib.Core.Bool.{true};
 ghost use lib.ListN.{length, replicate};
 ghost use Rattle.memory.specs.Layout.{withinLimits};
-ghost use Rattle.call_load.specs.Cartridge.{memoryAtLoad, freshState, noState, loadAnswer, loadArena, LoadFits};
+ghost use Rattle.call_load.specs.Cartridge.{memoryAtLoad, freshState, loadAnswer, loadArena, LoadFits};
 
 // A load's answer. Where it is refused, the state is one that no call accepts.
 pub struct Loaded {
@@ -57,60 +53,6 @@ fn fresh_state(mapper: u16, submapper: u8, flags: u8, known: bool, sizes: Memory
     State {
         chip: chip,
         memory: mapped,
-    }
-}
-
-fn no_chip() -> Namco163
-    ensures { λ r. ⌜ r ≡ noState .chip ⌝ }
-{
-    let regs = Regs::new();
-    let mut audio = Audio::new();
-    audio.current_channel = 0;
-    let nt_bank_enable = [false; 12];
-    let chr_banks = [0u8; 12];
-    let prg_banks = [0u8; 3];
-    let board = Board::Unknown;
-    let mirroring = Mirroring::Vertical;
-    Namco163 {
-        regs: regs,
-        board: board,
-        mapper_num: 0,
-        submapper_num: 0,
-        audio: audio,
-        auto_detect_board: false,
-        mirroring: mirroring,
-        prg_ram_written_to: false,
-        nt_bank_enable: nt_bank_enable,
-        chr_banks: chr_banks,
-        prg_banks: prg_banks,
-    }
-}
-
-// The state that a refused load answers.
-pub fn no_state() -> State
-    ensures { λ r. ⌜ r ≡ noState ⌝ }
-{
-    let layout = Layout {
-        prg_rom: 0,
-        prg_ram: 0,
-        battery_ext: 0,
-        chr: 0,
-        chr_writable: false,
-        ciram: 0,
-    };
-    let page = Page::UNMAPPED;
-    let prg_pages = [page; 64];
-    let chr_pages = [page; 16];
-    let m = Memory {
-        layout: layout,
-        battery_ext_len: 0,
-        prg_pages: prg_pages,
-        chr_pages: chr_pages,
-    };
-    let chip = no_chip();
-    State {
-        chip: chip,
-        memory: m,
     }
 }
 

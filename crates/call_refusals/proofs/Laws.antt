@@ -6,7 +6,7 @@ use mathlib.Core.Bool.{Bool, true, false, cond}
 use mathlib.Core.List.{List, [], _∷_, _++_}
 use native.Mathlib.Omega.{arith}
 use borrow.Author.Needs.{needs}
-use borrow.Author.Tests.{eqb-true, eqb-false, ltb-false}
+use borrow.Author.Tests.{ne-eqb, eqb-true, eqb-false, ltb-false}
 use mathlib.Core.Logic.{_⊎_, inl, inr}
 use lib.Dec.{eqb}
 use lib.ListN.{length}
@@ -20,7 +20,7 @@ use Rattle.board_state.specs.declared.State.{State}
 use Rattle.board_state.specs.State.{inRange}
 use Rattle.limits.proofs.Every.{was-true}
 use Rattle.board_state.proofs.StateRange.{memory-good}
-use Rattle.call_refusals.specs.Refusals.{Check, firstOf, stateChecks, resetChecks, arenaChecks, cpuChecks, fillChecks, batteryChecks}
+use Rattle.call_refusals.specs.Refusals.{Check, firstOf, unlessRefused, stateChecks, resetChecks, arenaChecks, cpuChecks, fillChecks, batteryChecks}
 
 -- ---- any list of checks
 
@@ -72,6 +72,22 @@ first-done (b ∷ before) after h = go (b .holds) (first-done before after) h
         → cond t (b .number) (firstOf (before ++ after)) ≡ cond t (b .number) (firstOf before)
     go true ih h = refl
     go false ih h = ih h
+
+-- ---- what a call gives by its checks: refused, accepted, and the number that it answers
+
+module _ {A : Type 0} (cs : List Check) (r : ℕ → A) (a : A) where
+  pub refused-is : (firstOf cs ≡ 0 → ⊥) → unlessRefused cs r a ≡ r (firstOf cs)
+  refused-is h = rw (ne-eqb (firstOf cs) 0 h)
+
+  pub accepted-is : firstOf cs ≡ 0 → unlessRefused cs r a ≡ a
+  accepted-is e = rw e
+
+  pub number-is : (f : A → ℕ) → f a ≡ 0 → ((q : ℕ) → f (r q) ≡ q) → f (unlessRefused cs r a) ≡ firstOf cs
+  number-is f ea er = go (eqb (firstOf cs) 0) refl
+    where
+      go : (t : Bool) → eqb (firstOf cs) 0 ≡ t → f (cond t a (r (firstOf cs))) ≡ firstOf cs
+      go true e = ea ∙ sym (eqb-true (firstOf cs) 0 e)
+      go false e = er (firstOf cs)
 
 -- ---- the arena's checks and one more behind them, as the code makes them: q is the number that the arena's checks gave
 

@@ -21,9 +21,13 @@ unfoldable pub firstOf : List Check → ℕ
 firstOf [] = 0
 firstOf (c ∷ cs) = cond (c .holds) (c .number) (firstOf cs)
 
--- one thing where the number says accepted, another where it is a refusal's
-abbrev pub ifAccepted {ℓ} : {A : Type ℓ} → ℕ → A → A → A
-ifAccepted q a r = cond (eqb q 0) a r
+-- what a call gives: where a check refuses, what is given for the first such number, else what the accepted call gives
+abbrev pub unlessRefused {ℓ} : {A : Type ℓ} → List Check → (ℕ → A) → A → A
+unlessRefused checks refused accepted = cond (eqb (firstOf checks) 0) accepted (refused (firstOf checks))
+
+-- the same of lent bytes, which a refused call leaves as they were
+abbrev pub unlessKept {ℓ} : {A : Type ℓ} → List Check → A → A → A
+unlessKept checks lent after = unlessRefused checks (λ q. lent) after
 
 -- "2. A state or image field is out of range."
 abbrev pub stateCheck : State → Check

@@ -1,13 +1,14 @@
 // The refusal number of each kind of call, 0 for accepted.
 use board_state::State;
 use board_state::in_range;
+use board_state::mapper_ok;
 use memory::layout::Layout;
 use memory::layout::MemoryLayout;
 use memory::layout::Src;
 ghost use mathlib.Core.Path.{_≡_};
-ghost use mathlib.Core.Bool.{_&&_};
+ghost use mathlib.Core.Bool.{true, _&&_};
 ghost use lib.Dec.{eqb};
-ghost use Rattle.board_state.specs.State.{mapperOk, inRange};
+ghost use Rattle.board_state.specs.State.{inRange};
 ghost use Rattle.call_refusals.specs.Refusals.{firstOf, stateChecks, resetChecks, arenaChecks, cpuChecks, fillChecks, batteryChecks, loadChecks};
 
 pub fn state_refusal(s: State) -> u8
@@ -31,33 +32,33 @@ pub fn reset_refusal(s: State, kind: u64) -> u8
     2
 }
 
-// Whether the state is in range is given, for callers that know it; so below.
-pub fn arena_refusal_of(good: bool, s: State, len: usize) -> u8
-    requires { ⌜ good ≡ inRange s ⌝ }
+// Of a state that is known to be in range; so below.
+pub fn arena_refusal_known(s: State, len: usize) -> u8
+    requires { ⌜ inRange s ≡ true ⌝ }
     ensures { λ r. ⌜ r ≡ firstOf (arenaChecks s len) ⌝ }
 {
-    if good {
-        let m = s.memory;
-        let layout = m.layout;
-        if len == layout.arena_len() {
-            return 0;
-        }
-        return 7;
+    let m = s.memory;
+    let layout = m.layout;
+    if len == layout.arena_len() {
+        return 0;
     }
-    2
+    7
 }
 
 pub fn arena_refusal(s: State, len: usize) -> u8
     ensures { λ r. ⌜ r ≡ firstOf (arenaChecks s len) ⌝ }
 {
-    arena_refusal_of(in_range(s), s, len)
+    if in_range(s) {
+        return arena_refusal_known(s, len);
+    }
+    2
 }
 
-pub fn cpu_refusal_of(good: bool, s: State, len: usize, addr: u16) -> u8
-    requires { ⌜ good ≡ inRange s ⌝ }
+pub fn cpu_refusal_known(s: State, len: usize, addr: u16) -> u8
+    requires { ⌜ inRange s ≡ true ⌝ }
     ensures { λ r. ⌜ r ≡ firstOf (cpuChecks s len addr) ⌝ }
 {
-    let q = arena_refusal_of(good, s, len);
+    let q = arena_refusal_known(s, len);
     if q != 0 {
         return q;
     }
@@ -70,7 +71,10 @@ pub fn cpu_refusal_of(good: bool, s: State, len: usize, addr: u16) -> u8
 pub fn cpu_refusal(s: State, len: usize, addr: u16) -> u8
     ensures { λ r. ⌜ r ≡ firstOf (cpuChecks s len addr) ⌝ }
 {
-    cpu_refusal_of(in_range(s), s, len, addr)
+    if in_range(s) {
+        return cpu_refusal_known(s, len, addr);
+    }
+    2
 }
 
 pub fn fill_refusal(s: State, len: usize, src: Src, n: usize) -> u8
@@ -100,12 +104,6 @@ pub fn battery_refusal(s: State, len: usize) -> u8
         return 12;
     }
     0
-}
-
-fn mapper_ok(mapper: u64) -> bool
-    ensures { λ r. ⌜ r ≡ mapperOk mapper ⌝ }
-{
-    (mapper == 19) | (mapper == 210)
 }
 
 // A 163 needs a reserve for its sound RAM; one byte is enough, since a reserve is whole pages.

@@ -1,6 +1,7 @@
 // The public calls on the PPU's side and on regions: CHR read and write, fill, `region_peek`, `region_write` and `sram`. None has a `requires`: what does not
 // fit is refused by its number, and nothing is altered.
 use board_state::State;
+use call_answers::Peeked;
 use call_refusals::arena_refusal;
 use call_refusals::fill_refusal;
 use call_refusals::state_refusal;
@@ -9,12 +10,6 @@ ghost use mathlib.Core.Path.{_≡_};
 ghost use lib.ListN.{length};
 ghost use Rattle.call_refusals.specs.Refusals.{firstOf, arenaChecks, fillChecks};
 ghost use Rattle.call_regions.specs.Regions.{chrRead, chrWriteArena, fillArena, regionRead, regionWriteArena, sramAnswer};
-
-// The answer of a read that changes nothing. In each answer `refusal` is 0 for accepted.
-pub struct Peeked {
-    pub refusal: u8,
-    pub byte: u8,
-}
 
 // Where PRG-RAM lies in the arena, with the used battery bytes behind it.
 pub struct BatterySpan {

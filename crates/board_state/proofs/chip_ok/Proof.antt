@@ -9,4 +9,11 @@ unfolding chipOk
 returns c = rw (c .audio-ok .ensures, c .before .banks-ok .ensures, c .before .before .mapper-ok .ensures)
 
 pub chip-ok-spec : {M : Type 1} → statement M
-chip-ok-spec = tie.close (tie.spec (λ c κs. search needs) (λ c κs. search needs) (λ c κs. search needs) returns)
+chip-ok-spec =
+    tie.close
+    (tie.spec
+    (λ c. search needs)  -- cast-t4
+    (λ c κs. search needs)  -- mapper-ok-requires
+    (λ c κs. search needs)  -- banks-ok-requires
+    (λ c κs. search needs)  -- audio-ok-requires
+    returns)

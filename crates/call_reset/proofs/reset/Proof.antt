@@ -2,9 +2,9 @@
 use mathlib.Core.Path.{sym, _∙_}
 use borrow.Author.Needs.{needs}
 use borrow.Author.Tests.{ne-eqb}
-use Rattle.call_battery.specs.Battery.{resetState}
-use Rattle.call_battery.proofs.reset.Statement.{statement}
-use Rattle.call_battery.proofs.reset.Tie as tie
+use Rattle.call_reset.specs.Reset.{resetState}
+use Rattle.call_reset.proofs.reset.Statement.{statement}
+use Rattle.call_reset.proofs.reset.Tie as tie
 
 returns : tie.Need-returns
 unfolding resetState

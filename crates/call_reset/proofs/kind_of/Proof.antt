@@ -1,7 +1,7 @@
 -- `kind_of` meets its contract.
 use borrow.Author.Tests.{eq-eqb, ne-eqb}
-use Rattle.call_battery.proofs.kind_of.Statement.{statement}
-use Rattle.call_battery.proofs.kind_of.Tie as tie
+use Rattle.call_reset.proofs.kind_of.Statement.{statement}
+use Rattle.call_reset.proofs.kind_of.Tie as tie
 
 returns : tie.Need-returns
 returns c = rw (eq-eqb _ _ (c .if1 .taken))
