@@ -1,51 +1,84 @@
--- 01 "Records": the state, and when it is in range: as the test that refusal 2 makes, and as the facts that it gives.
-use Prim.Native.Nat.{ℕ, _≤_}
+-- 01 "Records": the state, and all that is known of it: when it is in range, as the test that refusal 2 makes and, beside it, as the facts that the test
+-- gives; what the types of the fields say; and both together. The sound's part is in sound/specs/Range.antt, the memory's in memory/specs/Range.antt, and
+-- every number in limits/specs/Limits.antt.
+use Prim.Native.Nat.{ℕ, _^_, _≤_, _<_}
 use mathlib.Core.Path.{_≡_}
 use mathlib.Core.Bool.{Bool, _&&_, _||_}
 use mathlib.Core.List.{List}
 use mathlib.Core.Logic.{_⊎_}
 use lib.Dec.{eqb, leb}
-use lib.ListN.{getD}
-use Rattle.memory.specs.declared.Memory.{Memory}
-use Rattle.memory.specs.Memory.{Ranged}
-use Rattle.sound.specs.Range.{InRange as AudioInRange}
+use lib.ListN.{length, getD}
+use Rattle.limits.specs.Limits.{bankMost}
+use Rattle.limits.specs.Every.{every}
+use Rattle.memory.specs.Range.{memoryOk, MemoryInRange, MemoryTyped, Bytes}
+use Rattle.sound.specs.Range.{audioOk, InRange as AudioInRange, Typed as AudioTyped}
 use Rattle.board_chip.specs.declared.namco163.Namco163.{Namco163}
 use Rattle.board_state.specs.declared.State.{State}
-use Rattle.limits.specs.Every.{every}
-use Rattle.board_state.specs.Audio.{audioOk}
-use Rattle.board_state.specs.Tables.{memoryOk}
 
--- "PRG banks 0..=63"
-abbrev pub bankTest : List ℕ → ℕ → Bool
-bankTest banks i = leb (getD banks i 0) 63
+-- ---- the mapper: "mapper 19 or 210"
 
--- "mapper 19 or 210"
 abbrev pub mapperOk : ℕ → Bool
 mapperOk k = eqb k 19 || eqb k 210
 
--- the registers; the types of the other fields say their range
+abbrev pub MapperIn : ℕ → Type 0
+MapperIn k = (k ≡ 19) ⊎ (k ≡ 210)
+
+-- ---- the banks: "PRG banks 0..=63"
+
+abbrev pub bankTest : List ℕ → ℕ → Bool
+bankTest banks i = leb (getD banks i 0) bankMost
+
+abbrev pub BanksIn : List ℕ → Type 0
+BanksIn banks = (i : ℕ) → getD banks i 0 ≤ bankMost
+
+-- ---- the registers; the types of the other fields say their range
+
 unfoldable pub chipOk : Namco163 → Bool
-chipOk n = mapperOk (n .«mapper_num») && (every 3 (bankTest (n .«prg_banks»)) && audioOk (n .audio))
-
--- "2. A state or image field is out of range.": what that condition denies
-unfoldable pub inRange : State → Bool
-inRange s = chipOk (s .chip) && memoryOk (s .memory)
-
--- the state with other registers
-abbrev pub withChip : State → Namco163 → State
-withChip s n = record { chip = n; memory = s .memory }
-
--- ---- the same as facts, which callers' proofs use
+chipOk n =
+    mapperOk (n .«mapper_num»)
+    && (every 3 (bankTest (n .«prg_banks»))
+    && audioOk (n .audio))
 
 pub record ChipInRange (n : Namco163) : Type 0 where
-  pub mapper : (n .«mapper_num» ≡ 19) ⊎ (n .«mapper_num» ≡ 210)
-  pub banks : (i : ℕ) → getD (n .«prg_banks») i 0 ≤ 63
+  pub mapper : MapperIn (n .«mapper_num»)
+  pub banks : BanksIn (n .«prg_banks»)
   pub audio : AudioInRange (n .audio)
 
-pub record MemoryInRange (m : Memory) : Type 0 where
-  pub ranged : Ranged m
-  pub used : (m .«battery_ext_len» ≡ 0) ⊎ ((m .«battery_ext_len» ≡ 128) × (1 ≤ m .layout .«battery_ext»))
+-- ---- the state: "2. A state or image field is out of range." is what the test denies
+
+unfoldable pub inRange : State → Bool
+inRange s =
+    chipOk (s .chip)
+    && memoryOk (s .memory)
 
 pub record InRange (s : State) : Type 0 where
   pub chip : ChipInRange (s .chip)
   pub memory : MemoryInRange (s .memory)
+
+-- ---- what the types of the fields say of every state
+
+pub record ChipTyped (n : Namco163) : Type 0 where
+  pub counter : n .regs .«irq_counter» < 2 ^ 16
+  pub protect : n .regs .«prg_ram_protect» < 2 ^ 8
+  pub mapper : n .«mapper_num» < 2 ^ 16
+  pub submapper : n .«submapper_num» < 2 ^ 8
+  pub flags : length (n .«nt_bank_enable») ≡ 12
+  pub chr : length (n .«chr_banks») ≡ 12
+  pub «chr-bytes» : Bytes (n .«chr_banks»)
+  pub prg : length (n .«prg_banks») ≡ 3
+  pub audio : AudioTyped (n .audio)
+
+pub record Typed (s : State) : Type 0 where
+  pub chip : ChipTyped (s .chip)
+  pub memory : MemoryTyped (s .memory)
+
+-- ---- both: an owned state that has passed the test
+
+pub record Known (s : State) : Type 0 where
+  pub typed : Typed s
+  pub range : InRange s
+
+-- ---- the state with other registers
+
+abbrev pub withChip : State → Namco163 → State
+withChip s n = record { chip = n; memory = s .memory }

@@ -1,13 +1,14 @@
 // The state, and whether it is in range.
 use board_chip::namco163::Namco163;
+use limits::BANK_MOST;
 use memory::Memory;
+use memory::range::memory_ok;
+use sound::range::audio_ok;
 ghost use mathlib.Core.Path.{_≡_};
 ghost use Rattle.limits.specs.Every.{every};
 ghost use Rattle.board_state.specs.State.{bankTest, mapperOk, chipOk, inRange};
 
 pub mod none; // none.rt: the state of a refused load
-pub mod audio; // audio.rt: the sound's fields
-pub mod tables; // tables.rt: the layout, the used battery length and the entries
 
 // The board's state. Its bytes lie in an arena that the caller lends.
 pub struct State {
@@ -18,7 +19,7 @@ pub struct State {
 fn banks_ok(banks: [u8; 3]) -> bool
     ensures { λ r. ⌜ r ≡ every 3 (bankTest banks) ⌝ }
 {
-    ((banks[0] <= 63) & (banks[1] <= 63)) & (banks[2] <= 63)
+    ((banks[0] <= BANK_MOST) & (banks[1] <= BANK_MOST)) & (banks[2] <= BANK_MOST)
 }
 
 pub fn mapper_ok(mapper: u64) -> bool
@@ -32,7 +33,7 @@ fn chip_ok(chip: Namco163) -> bool
 {
     let banks = chip.prg_banks;
     let sound = chip.audio;
-    mapper_ok(chip.mapper_num as u64) & (banks_ok(banks) & audio::audio_ok(sound))
+    mapper_ok(chip.mapper_num as u64) & (banks_ok(banks) & audio_ok(sound))
 }
 
 // Whether each field is in range, floats and entries too.
@@ -41,5 +42,5 @@ pub fn in_range(s: State) -> bool
 {
     let chip = s.chip;
     let m = s.memory;
-    chip_ok(chip) & tables::memory_ok(m)
+    chip_ok(chip) & memory_ok(m)
 }

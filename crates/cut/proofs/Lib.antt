@@ -6,3 +6,4 @@ pub mod Counter
 pub mod Rising
 pub mod Pinned
 pub mod Demand3
+pub mod Always

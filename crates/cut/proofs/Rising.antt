@@ -1,7 +1,7 @@
 -- The counter 0x8000 + n first raises the line after 0x7FFF − n clocks, in every list of calls that leaves it alone.
 use Prim.Native.Nat.{ℕ, zero, suc, _+_, _-_, _≤_, _<_}
-use mathlib.Core.Path.{_≡_, refl, sym, _∙_}
-use mathlib.Core.Bool.{Bool, true, false}
+use mathlib.Core.Path.{_≡_, refl, sym, ap, _∙_}
+use mathlib.Core.Bool.{Bool, true, false, cond}
 use mathlib.Core.List.{List, [], _∷_, _++_, append-assoc, append-nil}
 use native.Mathlib.Nat.{add-zero, add-suc}
 use native.Mathlib.Omega.{arith}
@@ -44,49 +44,40 @@ module _ {State Sample : Type 0} (clock : State → Clocked State Sample) (c : C
     line : c .line (p .state) ≡ up
     rises : p .stretch .rises ≡ rs
 
+  -- one clock, by whether its counter rises
+  one-tick : (x : ℕ) (up r : Bool) (p : Point State Sample) {rs : List ℕ} → risesFrom x ≡ r → At x up rs p
+      → At (nextCounter x) (cond r true up) (rs ++ cond r (suc (p .count) ∷ []) []) (tick clock p)
+  unfolding tick
+  one-tick x up r p e a =
+      record {
+        counter = c .counts (p .state) ∙ ap nextCounter (a .counter);
+        line = rw (c .pends (p .state), a .counter, e, a .line);
+        rises = rw (c .rises (p .state), a .counter, e, a .rises);
+      }
+
   stays-clear : (m n : ℕ) (p : Point State Sample) {rs : List ℕ} → n + m < 0x7FFF → At (0x8000 + n) false rs p
       → At (0x8000 + (n + m)) false rs (ticks clock m p)
-  unfolding ticks tick
+  unfolding ticks
   stays-clear zero n p h a = rw add-zero a
-  stays-clear (suc m) n p h a =
-      let b = stays-clear m n p (omega arith) a in
-      record {
-        counter = rw (c .counts (ticks clock m p .state), b .counter, next-on (n + m) (omega arith)) (omega arith);
-        line = rw (c .pends (ticks clock m p .state), b .counter, quiet-on (n + m) (omega arith)) (b .line);
-        rises = rw (c .rises (ticks clock m p .state), b .counter, quiet-on (n + m) (omega arith), append-nil) (b .rises);
-      }
+  stays-clear (suc m) n p {rs} h a =
+      let t = one-tick (0x8000 + (n + m)) false false (ticks clock m p) (quiet-on (n + m) (omega arith)) (stays-clear m n p (omega arith) a) in
+      rw add-suc (rw (next-on (n + m) (omega arith), append-nil rs) at t)
 
   -- the clock that raises the line
   raises : (d n : ℕ) (p : Point State Sample) {rs : List ℕ} → n + d ≡ 0x7FFF → 0 < d → At (0x8000 + n) false rs p
       → At 0xFFFF true (rs ++ (p .count + d) ∷ []) (ticks clock d p)
-  unfolding ticks tick
+  unfolding ticks
   raises zero n p e h a = absurd (omega arith)
   raises (suc d) n p e h a =
-      let b = stays-clear d n p (omega arith) a in
-      record {
-        counter = rw (c .counts (ticks clock d p .state), b .counter, next-on (n + d) (omega arith)) (omega arith);
-        line = rw (c .pends (ticks clock d p .state), b .counter, rises-on (n + d) (omega arith));
-        rises = rw (
-          c .rises (ticks clock d p .state),
-          b .counter,
-          rises-on (n + d) (omega arith),
-          b .rises,
-          ticks-count clock d p,
-          add-suc,
-        );
-      }
+      let t = one-tick (0x8000 + (n + d)) false true (ticks clock d p) (rises-on (n + d) (omega arith)) (stays-clear d n p (omega arith) a) in
+      let top : 0x8000 + suc (n + d) ≡ 0xFFFF = omega arith in
+      rw add-suc (rw (next-on (n + d) (omega arith), top, ticks-count clock d p) at t)
 
   -- and after it
   stays-up : (m : ℕ) (p : Point State Sample) {rs : List ℕ} → At 0xFFFF true rs p → At 0xFFFF true rs (ticks clock m p)
-  unfolding ticks tick risesFrom nextCounter moves
+  unfolding ticks risesFrom nextCounter moves
   stays-up zero p a = a
-  stays-up (suc m) p a =
-      let b = stays-up m p a in
-      record {
-        counter = rw (c .counts (ticks clock m p .state), b .counter);
-        line = rw (c .pends (ticks clock m p .state), b .counter) (b .line);
-        rises = rw (c .rises (ticks clock m p .state), b .counter, append-nil) (b .rises);
-      }
+  stays-up (suc m) p {rs} a = rw (append-nil rs) at (one-tick 0xFFFF true false (ticks clock m p) refl (stays-up m p a))
 
   raises-within : (m d n : ℕ) (p : Point State Sample) {rs : List ℕ} → n + d ≡ 0x7FFF → 0 < d → d ≤ m → At (0x8000 + n) false rs p
       → At 0xFFFF true (rs ++ (p .count + d) ∷ []) (ticks clock m p)

@@ -5,3 +5,4 @@ pub mod Machine
 pub mod Contract
 pub mod Counter
 pub mod Demand3
+pub mod Always

@@ -20,7 +20,9 @@ use Rattle.board_chr.specs.Slots.{writeSlot, writeNametable, writeC000, writeC8
 use Rattle.board_prg.specs.Banks.{detectE000, writeBank, highBitsE000, writeE000, writeE800, writeF000, writeF800, bit6, bit7}
 use Rattle.board_registers.specs.Writes.{writeSoundData, writeWorkRam, writeChip}
 use Rattle.call_cpu.specs.Calls.{writeRegister}
-use Rattle.call_refusals.specs.Refusals.{firstOf}
+use Rattle.board_state.specs.declared.State.{State}
+use Rattle.call_refusals.specs.Refusals.{firstOf, resetChecks}
+use Rattle.call_refusals.proofs.Laws.{accepted-none}
 use Rattle.thm_machine.specs.Calls.{Held, Other, cpuRead, cpuPeek, cpuWrite, chrRead, chrWrite, fill, regionPeek, regionWrite, sram, reset, syncBattery, restoreBattery, writeImage, Answer}
 use Rattle.thm_machine.specs.Paper.{checks, answers}
 use Rattle.thm_machine.specs.Board.{otherGives, board}
@@ -129,26 +131,31 @@ read n a = either (ltb a 0x4800) n _ (part n) refl (either (ltb a 0x5000) _ n (p
 -- ---- calls
 
 -- what the paper alters, by the refusal number
-by-number : (q : ℕ) (b : Answered Held Answer) (h : Held) → part (b .state .state .chip) ≡ part (h .state .chip)
+by-number : (q : ℕ) (b : Answered Held Answer) (h : Held) → (q ≡ 0 → part (b .state .state .chip) ≡ part (h .state .chip))
     → part (plainly q b h .state .state .chip) ≡ part (h .state .chip)
-by-number zero b h e = e
+by-number zero b h e = e refl
 by-number (suc q) b h e = refl
 
-alters : (a : Other) (h : Held) → touches a ≡ false → part (answers a h .state .state .chip) ≡ part (h .state .chip)
-unfolding answers writeRegister part
-alters (cpuRead addr) h t = read (h .state .chip) addr
-alters (cpuPeek addr) h t = refl
-alters (cpuWrite addr v) h t = written (h .state .chip) addr v t
-alters (chrRead addr) h t = refl
-alters (chrWrite addr v) h t = refl
-alters (fill src bytes) h t = refl
-alters (regionPeek src offset) h t = refl
-alters (regionWrite src offset v) h t = refl
-alters sram h t = refl
-alters (reset kind) h t = let z : _≡_ {A = ℕ} 0 1 = cc in absurd (omega arith)
-alters syncBattery h t = refl
-alters restoreBattery h t = refl
-alters (writeImage buffer) h t = refl
+-- a reset that is accepted is of kind 0 or 1
+soft-or-hard : (s : State) (kind : ℕ) → firstOf (resetChecks s kind) ≡ 0 → kind ≤ 1
+soft-or-hard s kind e = ltb-false 1 kind (accepted-none (resetChecks s kind) (omega arith, (omega arith, tt)) e .1 .0)
+
+alters : (a : Other) (h : Held) → touches a ≡ false → firstOf (checks a h) ≡ 0
+    → part (answers a h .state .state .chip) ≡ part (h .state .chip)
+unfolding answers checks writeRegister part
+alters (cpuRead addr) h t e = read (h .state .chip) addr
+alters (cpuPeek addr) h t e = refl
+alters (cpuWrite addr v) h t e = written (h .state .chip) addr v t
+alters (chrRead addr) h t e = refl
+alters (chrWrite addr v) h t e = refl
+alters (fill src bytes) h t e = refl
+alters (regionPeek src offset) h t e = refl
+alters (regionWrite src offset v) h t e = refl
+alters sram h t e = refl
+alters (reset kind) h t e = absurd (omega (arith, soft-or-hard (h .state) kind e, leb-false kind 1 t))
+alters syncBattery h t e = refl
+alters restoreBattery h t e = refl
+alters (writeImage buffer) h t e = refl
 
 leaves : (a : Other) (h : Held) → touches a ≡ false → part (otherGives a h .state .state .chip) ≡ part (h .state .chip)
 leaves a h t = rw (keeps-other a h) (by-number (firstOf (checks a h)) (answers a h) h (alters a h t))

@@ -1,6 +1,6 @@
 -- The counter and the line, and the calls that write the counter or reset it.
 use Prim.Native.Nat.{ℕ}
-use mathlib.Core.Bool.{Bool, true, false, _&&_}
+use mathlib.Core.Bool.{Bool, false, _&&_}
 use mathlib.Core.List.{List, [], _∷_}
 use mathlib.Core.Path.{_≡_}
 use lib.Dec.{leb}
@@ -15,7 +15,7 @@ counterOf h = h .state .chip .regs .«irq_counter»
 abbrev pub lineOf : Held → Bool
 lineOf h = h .state .chip .regs .«irq_pending»
 
--- "neither written nor reset": a CPU write to 5000..5FFF, or a reset
+-- "neither written nor reset": a CPU write to 5000..5FFF, or a reset; one of another kind than 0 and 1 is refused, so it is none
 abbrev pub touches : Other → Bool
 touches (cpuRead addr) = false
 touches (cpuPeek addr) = false
@@ -26,7 +26,7 @@ touches (fill src bytes) = false
 touches (regionPeek src offset) = false
 touches (regionWrite src offset v) = false
 touches sram = false
-touches (reset kind) = true
+touches (reset kind) = leb kind 1
 touches syncBattery = false
 touches restoreBattery = false
 touches (writeImage buffer) = false
