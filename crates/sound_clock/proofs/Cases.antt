@@ -12,5 +12,7 @@ use Rattle.sound_clock.specs.Run.{soundRun, samplesOf}
 use Rattle.sound_clock.specs.Cases.{right, mixes, phases, turns, halved, ports}
 
 pub computed : right (mixes ++ phases ++ turns ++ halved ++ ports) ≡ true
-unfolding right peeked advanced readOf written nibbleAt nextPhase levelAt sumFrom sumOf mixOf outputOf nextChannel updateChannel updated soundClock clockSamples soundRun samplesOf add sum div mul round units odd size span climb ofInt ofBits ofFields toBits trailingZeros
+unfolding right peeked advanced readOf written nibbleAt nextPhase levelAt sumFrom sumOf mixOf outputOf
+    nextChannel updateChannel updated soundClock clockSamples soundRun samplesOf
+    add sum div mul round units odd size span climb ofInt ofBits ofFields toBits trailingZeros
 computed = refl
