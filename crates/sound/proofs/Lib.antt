@@ -1,3 +1,2 @@
+pub mod Each
 pub mod Floats
-pub mod Range
-pub mod Cases

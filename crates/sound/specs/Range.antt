@@ -1,56 +1,89 @@
--- When a sound state is in range (01, "Records", "In range means"), and what its types say of every state.
+-- When a sound state is in range (01, "Records", "In range means"), as the test that refusal 2 makes and as facts, side by side; and what
+-- the types of the fields say of every state. proofs/range/Laws.antt has that the test and the facts say the same.
 use Prim.Native.Nat.{ℕ, _≤_, _<_}
 use mathlib.Core.Path.{_≡_}
-use mathlib.Core.Bool.{false, not}
-use mathlib.Core.List.{List, map}
-use lib.Dec.{T}
+use mathlib.Core.Bool.{Bool, false, not, _&&_}
+use mathlib.Core.List.{List}
+use lib.Dec.{T, eqb, leb, ltb}
 use lib.ListN.{getD, length}
 use lib.IntN.{ℤ}
 use lib.Ieee.{Float, nan, fin, binary32, toBits, isNan, fits, le}
+use Rattle.limits.specs.Limits.{updateMost, channelMost, addressMost, phaseLimit, levelMost, outMost}
+use Rattle.limits.specs.Every.{every}
 use Rattle.sound.specs.declared.audio.Audio.{Audio}
-use Rattle.sound.specs.Mix.{whole}
+use Rattle.sound.specs.Levels.{whole, wholePart}
 
--- a channel output: a whole number 0..=3825, so no NaN and no negative zero
-pub record Level (x : Float) : Type 0 where
-  pub size : ℕ
-  pub small : size ≤ 3825
-  pub is : x ≡ whole size
+-- ---- "`out` in 0..=3825": no NaN, and bits of at most those of 3825; so no negative zero, whose bits are 80000000
 
--- the eight channel outputs
-abbrev pub Levels : List Float → Type 0
-Levels outs = (i : ℕ) → i < 8 → Level (getD outs i nan)
+unfoldable pub outOk : Float → Bool
+outOk x = not (isNan x) && leb (toBits binary32 x) outMost
 
--- channel outputs as a list of their whole numbers
-pub record Sizes (outs : List Float) : Type 0 where
-  pub sizes : List ℕ
-  pub small : (i : ℕ) → getD sizes i 0 < 3826
-  pub are : outs ≡ map whole sizes
-
--- `out`: no NaN, and bits of at most 456F1000, those of 3825; so no negative zero, whose bits are 80000000
 pub record OutInRange (x : Float) : Type 0 where
   pub number : T (not (isNan x))
-  pub bits : toBits binary32 x ≤ 0x456F1000
+  pub bits : toBits binary32 x ≤ outMost
 
 -- the same as a value: finite, the sign clear, at most 3825
 pub record OutValue (x : Float) : Type 0 where
   pub mantissa : ℕ
   pub exponent : ℤ
   pub is : x ≡ fin false mantissa exponent
-  pub most : T (le x (whole 3825))
+  pub most : T (le x (whole levelMost))
 
--- a sound state in range
+-- ---- "channel outputs whole 0..=3825", so no NaN and no negative zero: the float of its whole part has the same bits
+
+unfoldable pub levelOk : Float → Bool
+levelOk x = outOk x && eqb (toBits binary32 (whole (wholePart (toBits binary32 x)))) (toBits binary32 x)
+
+pub record Level (x : Float) : Type 0 where
+  pub size : ℕ
+  pub small : size ≤ levelMost
+  pub is : x ≡ whole size
+
+-- the test of channel i's output, and the eight outputs
+abbrev pub outputTest : List Float → ℕ → Bool
+outputTest outs i = levelOk (getD outs i nan)
+
+abbrev pub Levels : List Float → Type 0
+Levels outs = (i : ℕ) → i < 8 → Level (getD outs i nan)
+
+-- ---- "phases below 2^24": the test of channel i's phase, and all phases
+
+abbrev pub phaseTest : List ℕ → ℕ → Bool
+phaseTest phases i = ltb (getD phases i 0) phaseLimit
+
+abbrev pub Phases : List ℕ → Type 0
+Phases phases = (i : ℕ) → getD phases i 0 < phaseLimit
+
+-- ---- a sound state: "update counter 0..=14, channel 0..=7, sound address 0..=127", the phases, the outputs, `out`
+
+unfoldable pub audioOk : Audio → Bool
+audioOk a =
+    leb (a .«update_counter») updateMost
+    && (leb (a .«current_channel») channelMost
+    && (leb (a .addr) addressMost
+    && (every 8 (phaseTest (a .«phase_ext»))
+    && (every 8 (outputTest (a .«channel_out»))
+    && outOk (a .out)))))
+
 pub record InRange (a : Audio) : Type 0 where
-  pub counter : a .«update_counter» ≤ 14
-  pub channel : a .«current_channel» ≤ 7
-  pub address : a .addr ≤ 127
-  pub phases : (i : ℕ) → getD (a .«phase_ext») i 0 < 16777216
+  pub counter : a .«update_counter» ≤ updateMost
+  pub channel : a .«current_channel» ≤ channelMost
+  pub address : a .addr ≤ addressMost
+  pub phases : Phases (a .«phase_ext»)
   pub outputs : Levels (a .«channel_out»)
   pub mixed : OutInRange (a .out)
 
--- what the types of the fields say of every state
+-- ---- what the types of the fields say of every state
+
 pub record Typed (a : Audio) : Type 0 where
   pub «ram-length» : length (a .ram) ≡ 128
   pub bytes : (i : ℕ) → getD (a .ram) i 0 < 256
   pub «outputs-length» : length (a .«channel_out») ≡ 8
+  pub «outputs-fit» : (i : ℕ) → T (fits binary32 (getD (a .«channel_out») i nan))
   pub «phases-length» : length (a .«phase_ext») ≡ 8
   pub «out-fits» : T (fits binary32 (a .out))
+
+-- both: what an owned state is known to be once it has passed the test
+pub record Known (a : Audio) : Type 0 where
+  pub typed : Typed a
+  pub range : InRange a

@@ -1,9 +1,7 @@
-// The sound part of the Namco 163: eight channels that play waves of 4-bit samples out of 128 bytes of sound RAM.
+// The sound part of the Namco 163: its state, the port to its 128 bytes of sound RAM, and whether a state is in range.
 pub mod audio;
-pub mod channel;
-pub mod clock;
-pub mod mix;
+pub mod levels;
+pub mod range;
 pub mod registers;
-pub mod run;
 
 pub use audio::Audio;

@@ -18,6 +18,6 @@ pub extern "C" fn sound_bench_run(ram: &[u8], samples: &mut [f32], clocks: u32) 
         a.ram[i] = ram[i];
         i += 1;
     }
-    let ran = a.run(clocks, samples);
+    let ran = sound_clock::run::run(a, clocks, samples);
     ran.made as u64
 }

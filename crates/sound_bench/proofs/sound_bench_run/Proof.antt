@@ -4,9 +4,9 @@ use mathlib.Core.Path.{_≡_, refl, _∙_}
 use mathlib.Core.Bool.{false}
 use lib.ListN.{length}
 use Rattle.sound.specs.Range.{InRange}
-use Rattle.sound.specs.Run.{samplesOf}
-use Rattle.sound.proofs.Range.Audio.{other-range, fresh-range}
-use Rattle.sound.proofs.run.Laws.{made-closed}
+use Rattle.sound_clock.specs.Run.{samplesOf}
+use Rattle.sound.proofs.audio.Range.{other-range, fresh-range}
+use Rattle.sound_clock.proofs.run.Laws.{made-closed}
 use borrow.Author.Needs.{needs}
 use native.Mathlib.Omega.{arith}
 use Rattle.sound_bench.proofs.sound_bench_run.Statement.{statement}
@@ -26,20 +26,22 @@ loop-less c = omega arith
 
 loop-again : tie.Need-loop-again Inv-loop μ-loop
 loop-again c =
-    let c2 = c .before .before in
-    let g = c2 .loop .inv in
+    let turn = c .before .before in
+    let g = turn .loop .inv in
     let r = g .1 .0 in
-    (search needs, (other-range (c2 .loop .a) _ (r .counter) (r .channel) (r .address) refl refl refl r, (g .1 .1 .0, g .1 .1 .1)))
+    (search needs, (other-range (turn .loop .a) _ (r .counter) (r .channel) (r .address) refl refl refl r, (g .1 .1 .0, g .1 .1 .1)))
 
 run-requires : tie.Need-run-requires Inv-loop μ-loop
 run-requires c κs =
-    let c2 = c .before .before in let c4 = c2 .before .before in let c8 = c4 .before .before .before .before in
-    let a = c2 .loop .a in
-    let g = c2 .loop .inv in
-    let n = c8 .args .clocks in
+    let filled = c .before .before in
+    let room = filled .before .before in
+    let start = room .before .before .before .before in
+    let a = filled .loop .a in
+    let g = filled .loop .inv in
+    let n = start .args .clocks in
     let u : a .«update_counter» + n ≡ n = omega (arith, g .1 .1 .1) in
     let e : length (samplesOf n a) ≡ n / 15 = made-closed n a (g .1 .0 .counter) ∙ rw (g .1 .1 .0, u) in
-    (g .1 .0, omega (arith, e, c4 .if2 .left))
+    (g .1 .0, omega (arith, e, room .if2 .left))
 
 same-length : tie.Need-same-length Inv-loop μ-loop
 same-length c = c .before .before .run .kept .1 .1 .0

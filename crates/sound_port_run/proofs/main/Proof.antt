@@ -8,11 +8,12 @@ use Rattle.sound_port_run.proofs.main.Tie as tie
 
 expect-requires : tie.Need-expect-requires
 expect-requires c κs =
-    let c1 = c .before in let c6 = c1 .before .before .before .before .before in
-    let c11 = c6 .before .before .before .before .before in
-    let third = c1 .show3 in
-    let second = c6 .show2 in
-    let first = c11 .show in
+    let third-shown = c .before in
+    let second-shown = third-shown .before .before .before .before .before in
+    let first-shown = second-shown .before .before .before .before .before in
+    let third = third-shown .show3 in
+    let second = second-shown .show2 in
+    let first = first-shown .show in
     eq-eqb (first .result + second .result + third .result) 160 (omega (arith, first .ensures, second .ensures, third .ensures))
 
 pub main-spec : {M : Type 1} → statement M

@@ -15,14 +15,15 @@ returns c =
 returns-2 : tie.Need-returns-2
 unfolding written
 returns-2 c =
-    let d = c .before .before .before .before .args .addr in
+    let start = c .before .before .before .before in
+    let d = start .args .addr in
     rw (past 0x4800 0x4FFF d (omega arith) (omega arith), inside 0xE000 0xE7FF d (omega arith) (omega arith))
 
 returns-3 : tie.Need-returns-3
 unfolding written
 returns-3 c =
-    let c5 = c .before .before .before .before .before in
-    let d = c5 .args .addr in
+    let start = c .before .before .before .before .before in
+    let d = start .args .addr in
     rw (
       past 0x4800 0x4FFF d (omega arith) (omega arith),
       past 0xE000 0xE7FF d (omega arith) (omega arith),
@@ -48,8 +49,8 @@ returns-5 c =
 returns-6 : tie.Need-returns-6
 unfolding written
 returns-6 c =
-    let c5 = c .before .before .before .before .before in
-    let d = c5 .args .addr in
+    let start = c .before .before .before .before .before in
+    let d = start .args .addr in
     rw (
       past 0x4800 0x4FFF d (omega arith) (omega arith),
       past 0xE000 0xE7FF d (omega arith) (omega arith),

@@ -1,0 +1,3 @@
+// The sound clock, and a run of many clocks at once.
+pub mod clock;
+pub mod run;
