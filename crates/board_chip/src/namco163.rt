@@ -51,6 +51,11 @@ pub struct Namco163 {
 }
 
 impl Namco163 {
+    // The board's windows.
+    pub const PRG_WINDOW: usize = 8 * 1024;
+
+    pub const CHR_WINDOW: usize = 1024;
+
     pub fn with_board(self, board: Board) -> Namco163
         ensures { λ r. ⌜ r ≡ withBoard self board ⌝ }
     {
