@@ -11,7 +11,7 @@ use Rattle.memory.specs.declared.layout.Region.{Region}
 use Rattle.memory.specs.declared.layout.Src.the-variants.{Chr, CiRam}
 use Rattle.memory.specs.declared.page.Page.{Page}
 use Rattle.memory.specs.Memory.{regionIn, withChrPages}
-use Rattle.memory.specs.Windows.{mapChr}
+use Rattle.memory_map.specs.Windows.{mapChr}
 use Rattle.board_chip.specs.declared.namco163.Namco163.{Namco163}
 use Rattle.board_banking.specs.Banking.{slotSrc, slotPages, mapSlot, mapSlots}
 

@@ -10,10 +10,10 @@ use Rattle.memory.specs.declared.layout.Region.{Region}
 use Rattle.memory.specs.declared.layout.Src.{Src}
 use Rattle.memory.specs.declared.page.Page.{Page}
 use Rattle.memory.specs.declared.layout.Src.the-variants.{PrgRom, PrgRam, Chr, CiRam}
-use Rattle.memory.specs.Windows.{mapPages, mapPrg, mapChr, unmapPrg, setPrgWritable}
-use Rattle.memory.specs.Mirroring.{setMirroring}
+use Rattle.memory_map.specs.Windows.{mapPages, mapPrg, mapChr, unmapPrg, setPrgWritable}
+use Rattle.memory_map.specs.Mirroring.{setMirroring}
 use Rattle.board_chip.specs.declared.namco163.Namco163.{Namco163}
-use Rattle.board_chip.specs.Namco163.{is163}
+use Rattle.board_chip.specs.Namco163.{is163, prgWindow, chrWindow}
 use Rattle.board_chip.specs.Detection.{prgRamReadable, prgRamWritable}
 
 -- the region that a CHR slot shows, by its CIRAM flag
@@ -21,17 +21,21 @@ abbrev pub slotSrc : Bool → Src
 slotSrc true = CiRam
 slotSrc false = Chr
 
--- where a 1 KiB slot of 0000..2FFF is shown, `show` being the mapping of a window: at its address, and if it is one of 2000..2FFF again in 3000..3FFF
+-- where a slot of 0000..2FFF is shown, `show` being the mapping of a window: at its address, and if it is one of 2000..2FFF again in
+-- 3000..3FFF
 abbrev pub inSlot : {A : Type 0} → (ℕ → A → A) → ℕ → A → A
-inSlot show slot a = let low = show (slot * 1024) a in cond (ltb slot 8) low (show (slot * 1024 + 0x1000) low)
+inSlot show slot a =
+    let addr = slot * chrWindow in
+    let low = show addr a in
+    cond (ltb slot 8) low (show (addr + 0x1000) low)
 
 -- a bank in a slot, as steps of the memory
 unfoldable pub mapSlot : Memory → ℕ → ℕ → Bool → Memory
-mapSlot m slot bank ciram = inSlot (λ addr n. mapChr n addr 1024 (pos bank) (slotSrc ciram)) slot m
+mapSlot m slot bank ciram = inSlot (λ addr n. mapChr n addr chrWindow (pos bank) (slotSrc ciram)) slot m
 
 -- the same as steps of the PPU's table alone, for the code, which hands on no more than the table: `slot-alone` says that it is `mapSlot`
 unfoldable pub slotPages : Region → ℕ → ℕ → List Page → List Page
-slotPages r slot bank = inSlot (λ addr. mapPages 16 r 1024 (pos bank) (addr / 1024)) slot
+slotPages r slot bank = inSlot (λ addr. mapPages 16 r chrWindow (pos bank) (addr / 1024)) slot
 
 -- the first k slots
 unfoldable pub mapSlots : Namco163 → ℕ → Memory → Memory
@@ -42,22 +46,22 @@ mapSlots n (suc k) m = mapSlot (mapSlots n k m) k (getD (n .«chr_banks») k 0) 
 unfoldable pub mapChrTable : Namco163 → Memory → Memory
 mapChrTable n m = cond (is163 (n .board)) (mapSlots n 12 m) (setMirroring (mapSlots n 8 m) (n .mirroring))
 
--- a PRG-ROM bank in an 8 KiB window
+-- a PRG-ROM bank in a window
 abbrev pub mapBank : Memory → ℕ → ℕ → Memory
-mapBank m addr bank = mapPrg m addr 8192 (pos bank) PrgRom
+mapBank m addr bank = mapPrg m addr prgWindow (pos bank) PrgRom
 
 -- the three bank registers at 8000, A000 and C000, and the last bank at E000
 unfoldable pub mapRom : Namco163 → Memory → Memory
 mapRom n m =
     let bank = getD (n .«prg_banks») in
-    mapPrg (mapBank (mapBank (mapBank m 0x8000 (bank 0 0)) 0xA000 (bank 1 0)) 0xC000 (bank 2 0)) 0xE000 8192 (negsuc 0) PrgRom
+    mapPrg (mapBank (mapBank (mapBank m 0x8000 (bank 0 0)) 0xA000 (bank 1 0)) 0xC000 (bank 2 0)) 0xE000 prgWindow (negsuc 0) PrgRom
 
 -- work RAM at 6000, with its flag, or nothing
 unfoldable pub mapWorkRam : Namco163 → Memory → Memory
 mapWorkRam n m =
     cond (prgRamReadable (n .board))
-    (setPrgWritable (mapPrg m 0x6000 8192 (pos 0) PrgRam) 0x6000 8192 (prgRamWritable (n .board) (n .regs .«prg_ram_protect»)))
-    (unmapPrg m 0x6000 8192)
+    (setPrgWritable (mapPrg m 0x6000 prgWindow (pos 0) PrgRam) 0x6000 prgWindow (prgRamWritable (n .board) (n .regs .«prg_ram_protect»)))
+    (unmapPrg m 0x6000 prgWindow)
 
 -- `update_banks`
 unfoldable pub updateBanks : Namco163 → Memory → Memory

@@ -4,31 +4,37 @@ use memory::Memory;
 use memory::layout::Region;
 use memory::layout::Src;
 use memory::page::Page;
-use memory::windows::mapped_chr_pages;
+use memory_map::mirroring::set_mirroring;
+use memory_map::windows::map_prg;
+use memory_map::windows::mapped_chr_pages;
+use memory_map::windows::set_prg_writable;
+use memory_map::windows::unmap_prg;
 ghost use mathlib.Core.Path.{_≡_};
 ghost use mathlib.Core.Bool.{cond};
 ghost use Prim.Native.Nat.{_+_, _≤_, _<_};
 ghost use lib.ListN.{length};
-ghost use Rattle.memory.specs.Memory.{Sized};
+ghost use Rattle.limits.specs.Limits.{arenaMost};
+ghost use Rattle.memory.specs.Range.{Sized};
 ghost use Rattle.board_banking.specs.Banking.{slotPages, mapSlots, mapChrTable, mapBank, mapRom, mapWorkRam, updateBanks};
 
 // The PPU's table after a slot shows a bank of a region. Only the table is handed on, since a memory is long.
 fn slot_pages(pages: [Page; 16], region: Region, slot: u16, bank: u8) -> [Page; 16]
-    requires { ⌜ (region .start + region .len ≤ 858112) × (slot < 12) ⌝ }
+    requires { ⌜ (region .start + region .len ≤ arenaMost) × (slot < 12) ⌝ }
     ensures { λ r. ⌜ (r ≡ slotPages region slot bank pages) × (length r ≡ 16) ⌝ }
 {
-    let size = Memory::CHR_WINDOW;
-    let low = mapped_chr_pages(pages, slot * 1024, size, bank as i32, region);
+    let size = Namco163::CHR_WINDOW;
+    let addr = slot * size as u16;
+    let low = mapped_chr_pages(pages, addr, size, bank as i32, region);
     if slot < 8 {
         return low;
     }
-    mapped_chr_pages(low, slot * 1024 + 0x1000, size, bank as i32, region)
+    mapped_chr_pages(low, addr + 0x1000, size, bank as i32, region)
 }
 
 // The region that a CHR slot shows.
 fn slot_region(ciram: bool, chr: Region, nametables: Region) -> Region
-    requires { ⌜ (chr .start + chr .len ≤ 858112) × (nametables .start + nametables .len ≤ 858112) ⌝ }
-    ensures { λ r. ⌜ (r ≡ cond ciram nametables chr) × (r .start + r .len ≤ 858112) ⌝ }
+    requires { ⌜ (chr .start + chr .len ≤ arenaMost) × (nametables .start + nametables .len ≤ arenaMost) ⌝ }
+    ensures { λ r. ⌜ (r ≡ cond ciram nametables chr) × (r .start + r .len ≤ arenaMost) ⌝ }
 {
     if ciram {
         return nametables;
@@ -69,15 +75,15 @@ fn map_chr_table(chip: Namco163, m: Memory) -> Memory
     }
     let mirroring = chip.mirroring;
     let low = map_slots(chip, m, 8);
-    low.set_mirroring(mirroring)
+    set_mirroring(low, mirroring)
 }
 
-// A PRG-ROM bank in an 8 KiB window.
+// A PRG-ROM bank in a window.
 fn map_bank(m: Memory, addr: u16, bank: u8) -> Memory
     requires { ⌜ Sized m ⌝ }
     ensures { λ r. ⌜ (r ≡ mapBank m addr bank) × (Sized r) ⌝ }
 {
-    m.map_prg(addr, Memory::PRG_WINDOW, bank as i32, Src::PrgRom)
+    map_prg(m, addr, Namco163::PRG_WINDOW, bank as i32, Src::PrgRom)
 }
 
 fn map_rom(chip: Namco163, m: Memory) -> Memory
@@ -87,7 +93,7 @@ fn map_rom(chip: Namco163, m: Memory) -> Memory
     let at_8000 = map_bank(m, 0x8000, chip.prg_banks[0]);
     let at_a000 = map_bank(at_8000, 0xA000, chip.prg_banks[1]);
     let at_c000 = map_bank(at_a000, 0xC000, chip.prg_banks[2]);
-    at_c000.map_prg(0xE000, Memory::PRG_WINDOW, -1, Src::PrgRom)
+    map_prg(at_c000, 0xE000, Namco163::PRG_WINDOW, -1, Src::PrgRom)
 }
 
 fn map_work_ram(chip: Namco163, m: Memory) -> Memory
@@ -97,10 +103,10 @@ fn map_work_ram(chip: Namco163, m: Memory) -> Memory
     let board = chip.board;
     if board.prg_ram_readable() {
         let writable = board.prg_ram_writable(chip.regs.prg_ram_protect);
-        let mapped = m.map_prg(0x6000, Memory::PRG_WINDOW, 0, Src::PrgRam);
-        return mapped.set_prg_writable(0x6000, Memory::PRG_WINDOW, writable);
+        let mapped = map_prg(m, 0x6000, Namco163::PRG_WINDOW, 0, Src::PrgRam);
+        return set_prg_writable(mapped, 0x6000, Namco163::PRG_WINDOW, writable);
     }
-    m.unmap_prg(0x6000, Memory::PRG_WINDOW)
+    unmap_prg(m, 0x6000, Namco163::PRG_WINDOW)
 }
 
 pub fn update_banks(chip: Namco163, m: Memory) -> Memory

@@ -9,6 +9,13 @@ use Rattle.board_chip.specs.declared.namco163.Board.the-variants.{Unknow
 use Rattle.board_chip.specs.declared.namco163.Regs.{Regs}
 use Rattle.board_chip.specs.declared.namco163.Namco163.{Namco163}
 
+-- "The board maps windows of 8,192 (PRG) and 1,024 (CHR) only"
+abbrev pub prgWindow : ℕ
+prgWindow = 8192
+
+abbrev pub chrWindow : ℕ
+chrWindow = 1024
+
 -- "board 2 (Unknown, 163, 175, 340)": the number of each case
 abbrev pub boardNum : Board → ℕ
 boardNum Unknown = 0

@@ -1,7 +1,7 @@
--- Laws of the definitions, a file for each of specs/.
+-- Laws of the definitions, a file for each of specs/; `Lists` has those of any list, `Typed` what the types say.
+pub mod Lists
 pub mod Page
 pub mod Layout
-pub mod Windows
-pub mod Bytes
+pub mod Range
+pub mod Typed
 pub mod Changes
-pub mod Memory

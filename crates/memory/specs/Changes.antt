@@ -1,13 +1,15 @@
--- 01 "Load, detection and banking": "the PRG and CHR pages whose entries changed, how many changed, and the lowest changed page of each table".
+-- 01 "Load, detection and banking": "the PRG and CHR pages whose entries changed, how many changed, and the lowest changed page of each
+-- table".
 use Prim.Native.Nat.{ℕ, suc, _+_, _*_}
-use mathlib.Core.Bool.{Bool}
+use mathlib.Core.Bool.{Bool, cond}
 use mathlib.Core.List.{List, [], _∷_}
 use lib.Dec.{eqb}
 use lib.ListN.{length}
+use Rattle.memory.specs.declared.Memory.{Memory}
+use Rattle.memory.specs.declared.changes.Changed.{Changed}
 use Rattle.memory.specs.declared.changes.PrgChanges.{PrgChanges}
 use Rattle.memory.specs.declared.changes.ChrChanges.{ChrChanges}
 use Rattle.memory.specs.declared.page.Page.{Page}
-use Rattle.memory.specs.Page.{pick}
 
 -- entries are compared as whole numbers: a change of the flag alone is a change
 abbrev pub same : Page → Page → Bool
@@ -15,7 +17,7 @@ same a b = eqb (a .0) (b .0)
 
 -- 1 where two entries differ
 abbrev pub differ : Page → Page → ℕ
-differ a b = pick (same a b) 0 1
+differ a b = cond (same a b) 0 1
 
 -- bit i is set where entry i differs
 unfoldable pub changed : List Page → List Page → ℕ
@@ -33,7 +35,7 @@ countChanged (a ∷ old) (b ∷ new) = countChanged old new + differ a b
 unfoldable pub lowestChanged : List Page → List Page → ℕ
 lowestChanged [] new = 0
 lowestChanged (a ∷ old) [] = suc (length old)
-lowestChanged (a ∷ old) (b ∷ new) = pick (same a b) (suc (lowestChanged old new)) 0
+lowestChanged (a ∷ old) (b ∷ new) = cond (same a b) (suc (lowestChanged old new)) 0
 
 -- what a CPU write answers of each table: mask, count and lowest
 unfoldable pub prgChanges : List Page → List Page → PrgChanges
@@ -41,3 +43,12 @@ prgChanges old new = record { mask = changed old new; count = countChanged old n
 
 unfoldable pub chrChanges : List Page → List Page → ChrChanges
 chrChanges old new = record { mask = changed old new; count = countChanged old new; lowest = lowestChanged old new }
+
+-- "A CPU write answers the PRG and CHR pages whose entries changed, how many changed, and the lowest changed page of each table"
+unfoldable pub changes : Memory → Memory → Changed
+changes old new =
+    record { prg = prgChanges (old .«prg_pages») (new .«prg_pages»); chr = chrChanges (old .«chr_pages») (new .«chr_pages») }
+
+-- a refused write's answer
+abbrev pub noChanges : Changed
+noChanges = record { prg = record { mask = 0; count = 0; lowest = 0 }; chr = record { mask = 0; count = 0; lowest = 0 } }

@@ -1,31 +1,16 @@
 -- 01 "Records": sizes and their limits, page counts, the arena's order and the regions in it.
 use Prim.Native.Nat.{ℕ, _+_, _*_, _/_, _≤_}
-use mathlib.Core.Bool.{Bool, true, false, not, _&&_}
+use mathlib.Core.Bool.{Bool, true, false, cond, not, _&&_}
 use mathlib.Core.List.{List, [], _∷_}
 use lib.Dec.{eqb, leb}
+use Rattle.limits.specs.Limits.{prgRomLimit, prgRamLimit, batteryLimit, chrLimit, ciramLimit}
 use Rattle.memory.specs.declared.layout.MemoryLayout.{MemoryLayout}
 use Rattle.memory.specs.declared.layout.Layout.{Layout}
 use Rattle.memory.specs.declared.layout.Region.{Region}
 use Rattle.memory.specs.declared.layout.Src.{Src}
 use Rattle.memory.specs.declared.layout.Src.the-variants.{PrgRom, PrgRam, BatteryExt, Chr, CiRam}
-use Rattle.memory.specs.Page.{pick}
 
 -- ---- limits: "PRG-ROM 0..=524,288; PRG-RAM 0..=65,536; battery reserve 0..=1,024; CHR 0..=262,144 ..; CIRAM 0..=4,096"
-
-abbrev pub prgRomLimit : ℕ
-prgRomLimit = 524288
-
-abbrev pub prgRamLimit : ℕ
-prgRamLimit = 65536
-
-abbrev pub batteryLimit : ℕ
-batteryLimit = 1024
-
-abbrev pub chrLimit : ℕ
-chrLimit = 262144
-
-abbrev pub ciramLimit : ℕ
-ciramLimit = 4096
 
 -- the test on the bytes, before they are rounded
 unfoldable pub withinLimits : MemoryLayout → Bool
@@ -51,7 +36,7 @@ pagesFor bytes = (bytes + 1023) / 1024
 
 -- "CIRAM .., where 0 means 2,048"
 abbrev pub ciramBytes : ℕ → ℕ
-ciramBytes bytes = pick (eqb bytes 0) 2048 bytes
+ciramBytes bytes = cond (eqb bytes 0) 2048 bytes
 
 -- the page counts of the sizes that a host gives
 unfoldable pub layoutOf : MemoryLayout → Layout
@@ -65,15 +50,6 @@ layoutOf s =
       ciram = pagesFor (ciramBytes (s .ciram));
     }
 
--- "page counts within the limits and CIRAM at least 1 page"
-pub record GoodLayout (l : Layout) : Type 0 where
-  pub prgRom : l .«prg_rom» ≤ prgRomLimit / 1024
-  pub prgRam : l .«prg_ram» ≤ prgRamLimit / 1024
-  pub battery : l .«battery_ext» ≤ batteryLimit / 1024
-  pub chr : l .chr ≤ chrLimit / 1024
-  pub ciram : l .ciram ≤ ciramLimit / 1024
-  pub someCiram : 1 ≤ l .ciram
-
 -- ---- the arena's order
 
 -- the number of each region
@@ -86,9 +62,10 @@ srcNum CiRam = 4
 
 -- a region, if the test holds, before the rest
 abbrev pub onlyIf : Bool → Src → List Src → List Src
-onlyIf t s rest = pick t (s ∷ rest) rest
+onlyIf t s rest = cond t (s ∷ rest) rest
 
--- "Arena order: zero page, PRG-ROM, CHR if ROM, PRG-RAM, battery reserve, CHR if RAM, CIRAM": what follows the zero page, by whether CHR is RAM
+-- "Arena order: zero page, PRG-ROM, CHR if ROM, PRG-RAM, battery reserve, CHR if RAM, CIRAM":
+-- what follows the zero page, by whether CHR is RAM
 unfoldable pub arenaOrder : Bool → List Src
 arenaOrder ram = PrgRom ∷ onlyIf (not ram) Chr (PrgRam ∷ BatteryExt ∷ onlyIf ram Chr (CiRam ∷ []))
 
@@ -103,7 +80,7 @@ pagesIn l CiRam = l .ciram
 -- how many pages stand in a list of regions before region s
 unfoldable pub pagesBefore : Layout → Src → List Src → ℕ
 pagesBefore l s [] = 0
-pagesBefore l s (t ∷ rest) = pick (eqb (srcNum s) (srcNum t)) 0 (pagesIn l t + pagesBefore l s rest)
+pagesBefore l s (t ∷ rest) = cond (eqb (srcNum s) (srcNum t)) 0 (pagesIn l t + pagesBefore l s rest)
 
 -- how many pages a list of regions has
 unfoldable pub pagesOfAll : Layout → List Src → ℕ

@@ -1,17 +1,12 @@
 -- Page entries: the source's `Page`.
 use Prim.Native.Nat.{ℕ, _+_, _/_, _%_, _^_}
-use mathlib.Core.Bool.{Bool, true, false}
+use mathlib.Core.Bool.{Bool, cond}
 use lib.Dec.{eqb}
 use Rattle.memory.specs.declared.page.Page.{Page}
 
--- a choice by a test
-abbrev pub pick {ℓ} : {A : Type ℓ} → Bool → A → A → A
-pick true a b = a
-pick false a b = b
-
--- bit k of a number
-abbrev pub bit : ℕ → ℕ → Bool
-bit k n = eqb (n / 2 ^ k % 2) 1
+-- whether bit k of a number is set
+abbrev pub hasBit : ℕ → ℕ → Bool
+hasBit k n = eqb (n / 2 ^ k % 2) 1
 
 -- 01: "The unmapped entry is 0" (`Page::UNMAPPED`)
 abbrev pub unmapped : Page
@@ -19,7 +14,7 @@ unmapped = record { 0 = 0 }
 
 -- 01: "a byte offset (30 bits) and a writable flag (bit 31)" (`Page::new`)
 abbrev pub pageOf : ℕ → Bool → Page
-pageOf o w = record { 0 = pick w (2 ^ 31) 0 + o % 2 ^ 30 }
+pageOf o w = record { 0 = cond w (2 ^ 31) 0 + o % 2 ^ 30 }
 
 -- `Page::offset`
 abbrev pub offsetOf : Page → ℕ
@@ -27,4 +22,4 @@ offsetOf p = p .0 % 2 ^ 30
 
 -- `Page::is_writable`
 abbrev pub writableOf : Page → Bool
-writableOf p = bit 31 (p .0)
+writableOf p = hasBit 31 (p .0)

@@ -1,8 +1,9 @@
 // Which entries of a page table changed: as a mask, how many, and the first.
+use crate::Memory;
 use crate::page::Page;
 ghost use mathlib.Core.Path.{_≡_};
 ghost use Prim.Native.Nat.{_≤_};
-ghost use Rattle.memory.specs.Changes.{differ, changed, prgChanges, chrChanges};
+ghost use Rattle.memory.specs.Changes.{differ, changed, prgChanges, chrChanges, changes};
 
 pub struct PrgChanges {
     pub mask: u64,
@@ -16,6 +17,12 @@ pub struct ChrChanges {
     pub count: u32,
     // The lowest changed entry, or 16.
     pub lowest: u32,
+}
+
+// Which entries of the two page tables a write changed.
+pub struct Changed {
+    pub prg: PrgChanges,
+    pub chr: ChrChanges,
 }
 
 // 1 where two entries differ, in the flag too.
@@ -76,4 +83,17 @@ pub fn chr_changes(old: [Page; 16], new: [Page; 16]) -> ChrChanges
         count: u16::count_ones(mask),
         lowest: u16::trailing_zeros(mask),
     }
+}
+
+// What changed between two memories.
+pub fn changes_between(old: Memory, new: Memory) -> Changed
+    ensures { λ r. ⌜ r ≡ changes old new ⌝ }
+{
+    let old_prg = old.prg_pages;
+    let new_prg = new.prg_pages;
+    let old_chr = old.chr_pages;
+    let new_chr = new.chr_pages;
+    let prg = prg_changes(old_prg, new_prg);
+    let chr = chr_changes(old_chr, new_chr);
+    Changed { prg: prg, chr: chr }
 }

@@ -1,8 +1,15 @@
 // The layout of the arena: sizes in bytes, page counts, and the regions' places.
+use limits::BATTERY_LIMIT;
+use limits::CHR_LIMIT;
+use limits::CIRAM_LIMIT;
+use limits::PRG_RAM_LIMIT;
+use limits::PRG_ROM_LIMIT;
 ghost use mathlib.Core.Path.{_≡_};
 ghost use Prim.Native.Nat.{_+_, _*_, _≤_, _<_};
 ghost use Rattle.memory.specs.declared.layout.Src.the-variants.{PrgRam, BatteryExt, Chr, CiRam};
-ghost use Rattle.memory.specs.Layout.{withinLimits, pagesFor, ciramBytes, layoutOf, GoodLayout, firstPage, arenaLen, regionOf};
+ghost use Rattle.limits.specs.Limits.{arenaMost};
+ghost use Rattle.memory.specs.Layout.{withinLimits, pagesFor, ciramBytes, layoutOf, firstPage, arenaLen, regionOf};
+ghost use Rattle.memory.specs.Range.{GoodLayout};
 
 // Sizes of the regions in bytes, as the host gives them.
 pub struct MemoryLayout {
@@ -41,24 +48,14 @@ pub struct Region {
 }
 
 impl MemoryLayout {
-    pub const PRG_ROM_LIMIT: u64 = 524_288;
-
-    pub const PRG_RAM_LIMIT: u64 = 65_536;
-
-    pub const BATTERY_EXT_LIMIT: u64 = 1_024;
-
-    pub const CHR_LIMIT: u64 = 262_144;
-
-    pub const CIRAM_LIMIT: u64 = 4_096;
-
     pub fn within_limits(self) -> bool
         ensures { λ r. ⌜ r ≡ withinLimits self ⌝ }
     {
-        (self.prg_rom <= MemoryLayout::PRG_ROM_LIMIT)
-            & (self.prg_ram <= MemoryLayout::PRG_RAM_LIMIT)
-            & (self.battery_ext <= MemoryLayout::BATTERY_EXT_LIMIT)
-            & (self.chr <= MemoryLayout::CHR_LIMIT)
-            & (self.ciram <= MemoryLayout::CIRAM_LIMIT)
+        (self.prg_rom <= PRG_ROM_LIMIT)
+            & (self.prg_ram <= PRG_RAM_LIMIT)
+            & (self.battery_ext <= BATTERY_LIMIT)
+            & (self.chr <= CHR_LIMIT)
+            & (self.ciram <= CIRAM_LIMIT)
     }
 }
 
@@ -94,7 +91,7 @@ impl Layout {
     // The arena's length in bytes.
     pub fn arena_len(self) -> usize
         requires { ⌜ GoodLayout self ⌝ }
-        ensures { λ r. ⌜ (r ≡ arenaLen self) × (r ≤ 858112) ⌝ }
+        ensures { λ r. ⌜ (r ≡ arenaLen self) × (r ≤ arenaMost) ⌝ }
     {
         1024 * (1 + self.prg_rom + self.prg_ram + self.battery_ext + self.chr + self.ciram)
     }
@@ -144,7 +141,7 @@ impl Layout {
     // A region, given how much of the battery reserve is used.
     pub fn region(self, battery_ext_len: usize, src: Src) -> Region
         requires { ⌜ (GoodLayout self) × («battery_ext_len» ≤ 1024 * self .«battery_ext») ⌝ }
-        ensures { λ r. ⌜ (r ≡ regionOf self «battery_ext_len» src) × (r .start + r .len ≤ 858112) ⌝ }
+        ensures { λ r. ⌜ (r ≡ regionOf self «battery_ext_len» src) × (r .start + r .len ≤ arenaMost) ⌝ }
     {
         match src {
             Src::PrgRom => Region {

@@ -19,23 +19,28 @@ loop-holds : tie.Need-loop-holds Inv-loop μ-loop
 unfolding mapSlots
 loop-holds c = (omega arith, refl)
 
+abbrev start : tie.At-loop Inv-loop μ-loop → tie.Start Inv-loop μ-loop
+start c = c .before .before .before .before .before
+
 loop-again : tie.Need-loop-again Inv-loop μ-loop
 loop-again c =
-    let c2 = c .before .before in let c5 = c2 .before .before .before in let c7 = c5 .before .before in
-    let c8 = c7 .before in let c10 = c8 .before .before in
-    let a = c10 .args in
-    let l = c5 .loop in (
+    let chosen = c .before .before in
+    let turn = chosen .before .before .before in
+    let nametables = turn .before .before in
+    let chr = nametables .before in
+    let a = start turn .args in
+    let l = turn .loop in (
       omega arith,
       rw (c .slot-pages .ensures .0)
-          (slot-more (a .t1) (l .slot) (a .m) (l .pages) _ _ _ (c8 .region .ensures .0) (c7 .region2 .ensures .0)
-          (c2 .slot-region .ensures .0) (l .inv .1)),
+          (slot-more (a .t1) (l .slot) (a .m) (l .pages) _ _ _ (chr .region .ensures .0) (nametables .region2 .ensures .0)
+          (chosen .slot-region .ensures .0) (l .inv .1)),
     )
 
 returns : tie.Need-returns Inv-loop μ-loop
 returns c =
-    let c1 = c .before in let c6 = c1 .before .before .before .before .before in (
-      let e : c1 .loop .slot ≡ c6 .args .n = omega arith in rw e at (c1 .loop .inv .1),
-      record { layout = c6 .pre .0 .layout; used = c6 .pre .0 .used },
+    let end = c .before in let s = start end in (
+      let e : end .loop .slot ≡ s .args .n = omega arith in rw e at (end .loop .inv .1),
+      record { layout = s .pre .0 .layout; used = s .pre .0 .used },
     )
 
 pub map-slots-spec : {M : Type 1} → statement M

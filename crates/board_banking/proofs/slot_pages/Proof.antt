@@ -36,11 +36,11 @@ pub slot-pages-spec : {M : Type 1} → statement M
 slot-pages-spec =
     tie.close
     (tie.spec
-    (λ c. search needs)  -- mul-mapped-chr-pages
+    (λ c. search needs)  -- cast-addr
+    (λ c. search needs)  -- mul-addr
     (λ c. search needs)  -- cast-mapped-chr-pages
     (λ c κs. search needs)  -- mapped-chr-pages-requires
     returns
-    (λ c. search needs)  -- mul-mapped-chr-pages-2
     (λ c. search needs)  -- add-mapped-chr-pages
     (λ c. search needs)  -- cast-mapped-chr-pages-2
     (λ c κs. search needs)  -- mapped-chr-pages-requires-2

@@ -1,8 +1,8 @@
--- Mask, count and lowest entry say of a table of any length which entries differ, and the machine's counts of the mask are those of the entries.
--- Assumes nothing.
+-- Mask, count and lowest entry say of a table of any length which entries differ, and the machine's counts of the mask are those of
+-- the entries. Assumes nothing.
 use Prim.Native.Nat.{ℕ, zero, suc, _+_, _-_, _*_, _/_, _%_, _^_, _≤_, _<_}
 use mathlib.Core.Path.{_≡_, refl, ap, ap₂, sym, _∙_}
-use mathlib.Core.Bool.{Bool, true, false, not}
+use mathlib.Core.Bool.{Bool, true, false, cond, not}
 use mathlib.Core.List.{List, [], _∷_}
 use native.Mathlib.Omega.{arith}
 use native.Mathlib.Nat.{pow-suc, mul-comm, div-div-eq-div-mul, lt-of-lt-of-le}
@@ -15,12 +15,12 @@ use lib.Pow.{pow-mono, pow-pos}
 use lib.Count.{ones, ones-ones, ones-cat, trailingZeros, trailing-of-zero, under}
 use Rattle.memory.specs.declared.page.Page.{Page}
 use Rattle.memory.specs.Changes.{same, differ, changed, countChanged, lowestChanged}
-use Rattle.memory.specs.Page.{pick, bit, unmapped}
+use Rattle.memory.specs.Page.{hasBit, unmapped}
 
 pub differ-le : (a b : Page) → differ a b ≤ 1
 differ-le a b = go (same a b)
   where
-    go : (t : Bool) → pick t 0 1 ≤ 1
+    go : (t : Bool) → cond t 0 1 ≤ 1
     go true = omega arith
     go false = omega arith
 
@@ -85,7 +85,7 @@ mask-whole m end = rw end at (m .made)
 ones-bit : (a b : Page) → ones (differ a b) ≡ differ a b
 ones-bit a b = go (same a b)
   where
-    go : (t : Bool) → ones (pick t 0 1) ≡ pick t 0 1
+    go : (t : Bool) → ones (cond t 0 1) ≡ cond t 0 1
     go true = ones-ones 0
     go false = ones-ones 1
 
@@ -109,7 +109,7 @@ lowest-changed (a ∷ old) [] = trailing-of-zero (suc (length old))
 lowest-changed (a ∷ old) (b ∷ new) =
     ap₂ under (low old new a b) (ap (trailingZeros (length old)) (high old new a b) ∙ lowest-changed old new) ∙ go (same a b)
   where
-    go : (t : Bool) → under (pick t 0 1) (lowestChanged old new) ≡ pick t (suc (lowestChanged old new)) 0
+    go : (t : Bool) → under (cond t 0 1) (lowestChanged old new) ≡ cond t (suc (lowestChanged old new)) 0
     go true = refl
     go false = refl
 
@@ -119,13 +119,13 @@ lowest-changed-of n old new e = rw e at (lowest-changed old new)
 
 -- ---- what mask, count and lowest say of two tables of one length
 
-bit-of : (t : Bool) → eqb (pick t 0 1) 1 ≡ not t
+bit-of : (t : Bool) → eqb (cond t 0 1) 1 ≡ not t
 bit-of true = refl
 bit-of false = refl
 
 -- bit k is set exactly where entry k differs
 pub bit-changed : (old new : List Page) → length old ≡ length new → (k : ℕ) → k < length old
-    → bit k (changed old new) ≡ not (eqb (getD old k unmapped .0) (getD new k unmapped .0))
+    → hasBit k (changed old new) ≡ not (eqb (getD old k unmapped .0) (getD new k unmapped .0))
 unfolding changed
 bit-changed [] new e k h = absurd (omega arith)
 bit-changed (a ∷ old) [] e k h = absurd (omega arith)
@@ -147,7 +147,7 @@ lowest-before (a ∷ old) [] k e h = absurd (omega arith)
 lowest-before (a ∷ old) (b ∷ new) k e h = go (λ j q. lowest-before old new j (omega arith) q) (same a b) refl k h
   where
     go : ((j : ℕ) → j < lowestChanged old new → getD old j unmapped .0 ≡ getD new j unmapped .0) → (t : Bool) → same a b ≡ t
-        → (k : ℕ) → k < pick t (suc (lowestChanged old new)) 0
+        → (k : ℕ) → k < cond t (suc (lowestChanged old new)) 0
         → getD (a ∷ old) k unmapped .0 ≡ getD (b ∷ new) k unmapped .0
     go rest true s zero h = eqb-true (a .0) (b .0) s
     go rest true s (suc k) h = rest k (omega arith)
@@ -163,15 +163,15 @@ lowest-differs (a ∷ old) (b ∷ new) e h = go (λ q. lowest-differs old new (o
   where
     go : (lowestChanged old new < length old
         → getD old (lowestChanged old new) unmapped .0 ≡ getD new (lowestChanged old new) unmapped .0 → ⊥)
-        → (t : Bool) → same a b ≡ t → pick t (suc (lowestChanged old new)) 0 < suc (length old)
-        → getD (a ∷ old) (pick t (suc (lowestChanged old new)) 0) unmapped .0
-        ≡ getD (b ∷ new) (pick t (suc (lowestChanged old new)) 0) unmapped .0 → ⊥
+        → (t : Bool) → same a b ≡ t → cond t (suc (lowestChanged old new)) 0 < suc (length old)
+        → getD (a ∷ old) (cond t (suc (lowestChanged old new)) 0) unmapped .0
+        ≡ getD (b ∷ new) (cond t (suc (lowestChanged old new)) 0) unmapped .0 → ⊥
     go rest true s h = rest (omega arith)
     go rest false s h = eqb-false (a .0) (b .0) s
 
 -- the law whole, for tables of any length
 pub record Tied (old new : List Page) : Type 0 where
-  pub bits : (k : ℕ) → k < length old → bit k (changed old new) ≡ not (eqb (getD old k unmapped .0) (getD new k unmapped .0))
+  pub bits : (k : ℕ) → k < length old → hasBit k (changed old new) ≡ not (eqb (getD old k unmapped .0) (getD new k unmapped .0))
   pub above : changed old new < 2 ^ length old
   pub count : ones (changed old new) ≡ countChanged old new
   pub lowest : trailingZeros (length old) (changed old new) ≡ lowestChanged old new

@@ -1,15 +1,19 @@
 -- Every region lies inside the arena, behind the zero page, and the sizes that 01 takes give a good layout. Assumes nothing.
-use Prim.Native.Nat.{ℕ, _+_, _*_, _≤_}
-use mathlib.Core.Path.{_≡_, refl}
-use mathlib.Core.Bool.{Bool, true, false, _&&_}
+use Prim.Native.Nat.{ℕ, _+_, _*_, _/_, _≤_}
+use mathlib.Core.Path.{_≡_}
+use mathlib.Core.Bool.{Bool, true, false}
 use borrow.Author.Tests.{leb-true, eq-eqb, ne-eqb}
 use native.Mathlib.Decide.{ℕ-discrete}
 use native.Mathlib.Omega.{arith}
+use Rattle.limits.specs.Limits.{ciramLimit, ciramPages, arenaMost}
+use Rattle.limits.proofs.Every.{first-of}
 use Rattle.memory.specs.declared.layout.Layout.{Layout}
 use Rattle.memory.specs.declared.layout.MemoryLayout.{MemoryLayout}
 use Rattle.memory.specs.declared.layout.Src.{Src}
 use Rattle.memory.specs.declared.layout.Src.the-variants.{PrgRom, PrgRam, BatteryExt, Chr, CiRam}
-use Rattle.memory.specs.Layout.{withinLimits, WithinLimits, pagesFor, ciramBytes, layoutOf, GoodLayout, arenaOrder, pagesIn, pagesBefore, pagesOfAll, firstPage, arenaPages, arenaLen, regionOf}
+use Rattle.memory.specs.Layout.{withinLimits, WithinLimits, pagesFor, ciramBytes, layoutOf}
+use Rattle.memory.specs.Layout.{arenaOrder, pagesIn, pagesBefore, pagesOfAll, firstPage, arenaPages, arenaLen, regionOf}
+use Rattle.memory.specs.Range.{GoodLayout}
 
 -- CHR stands in one of two places, so the arena has as many pages either way
 pub arena-pages : (l : Layout) → arenaPages l ≡ 1 + l .«prg_rom» + l .«prg_ram» + l .«battery_ext» + l .chr + l .ciram
@@ -38,7 +42,7 @@ region-ends l s = go (l .«chr_writable») s
     go false CiRam = omega arith
 
 -- the largest arena: every size at its limit
-pub pages-le : (l : Layout) → GoodLayout l → arenaPages l ≤ 838
+pub pages-le : (l : Layout) → GoodLayout l → arenaPages l ≤ arenaMost / 1024
 pages-le l g = omega (arith, arena-pages l)
 
 -- CHR stands before CIRAM in both orders
@@ -60,26 +64,22 @@ region-in l used BatteryExt h = omega (arith, region-ends l BatteryExt)
 region-in l used Chr h = omega (arith, region-ends l Chr)
 region-in l used CiRam h = omega (arith, region-ends l CiRam)
 
--- and before the end of the largest arena, 838 pages
+-- and before the end of the largest arena
 pub region-le : (l : Layout) (used : ℕ) (s : Src) → GoodLayout l → used ≤ 1024 * l .«battery_ext»
-    → regionOf l used s .start + regionOf l used s .len ≤ 858112
+    → regionOf l used s .start + regionOf l used s .len ≤ arenaMost
 unfolding arenaLen
 region-le l used s g h = omega (arith, region-in l used s h, pages-le l g)
 
 -- ---- the limits
 
-and-true : (a b : Bool) → a && b ≡ true → (a ≡ true) × (b ≡ true)
-and-true true b e = (refl, e)
-and-true false b e = let z : _≡_ {A = ℕ} 0 1 = cc in absurd (omega arith)
-
 -- the test passed: each size is within its limit
 within-facts : (s : MemoryLayout) → withinLimits s ≡ true → WithinLimits s
 unfolding withinLimits
 within-facts s e =
-    let d = and-true _ _ e in
-    let c = and-true _ _ (d .0) in
-    let b = and-true _ _ (c .0) in
-    let a = and-true _ _ (b .0) in
+    let d = first-of _ _ e in
+    let c = first-of _ _ (d .0) in
+    let b = first-of _ _ (c .0) in
+    let a = first-of _ _ (b .0) in
     record {
       prgRom = leb-true _ _ (a .0);
       prgRam = leb-true _ _ (a .1);
@@ -89,10 +89,10 @@ within-facts s e =
     }
 
 -- rounding keeps the limits, and no CIRAM becomes two pages
-ciram-pages : (bytes : ℕ) → bytes ≤ 4096 → (1 ≤ pagesFor (ciramBytes bytes)) × (pagesFor (ciramBytes bytes) ≤ 4)
+ciram-pages : (bytes : ℕ) → bytes ≤ ciramLimit → (1 ≤ pagesFor (ciramBytes bytes)) × (pagesFor (ciramBytes bytes) ≤ ciramPages)
 ciram-pages bytes h = by (ℕ-discrete bytes 0)
   where
-    by : Dec (bytes ≡ 0) → (1 ≤ pagesFor (ciramBytes bytes)) × (pagesFor (ciramBytes bytes) ≤ 4)
+    by : Dec (bytes ≡ 0) → (1 ≤ pagesFor (ciramBytes bytes)) × (pagesFor (ciramBytes bytes) ≤ ciramPages)
     by (yes e) = rw (eq-eqb bytes 0 e) (omega arith, omega arith)
     by (no ne) = rw (ne-eqb bytes 0 ne) (let p : 1 ≤ bytes = omega (arith, ne) in omega arith, omega arith)
 

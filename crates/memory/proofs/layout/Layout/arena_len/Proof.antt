@@ -6,9 +6,12 @@ use borrow.Author.Needs.{needs}
 use Rattle.memory.proofs.layout.Layout.arena_len.Statement.{statement}
 use Rattle.memory.proofs.layout.Layout.arena_len.Tie as tie
 
+abbrev start : tie.After-struct-known5 → tie.Start
+start c = c .before .before .before .before .before
+
 returns : tie.Need-returns
 unfolding arenaLen
-returns c = (omega (arith, arena-pages (c .before .before .before .before .before .args .self)), omega arith)
+returns c = (omega (arith, arena-pages (start c .args .self)), omega arith)
 
 pub arena-len-spec : {M : Type 1} → statement M
 arena-len-spec =

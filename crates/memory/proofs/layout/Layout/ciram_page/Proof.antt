@@ -5,8 +5,11 @@ use borrow.Author.Needs.{needs}
 use Rattle.memory.proofs.layout.Layout.ciram_page.Statement.{statement}
 use Rattle.memory.proofs.layout.Layout.ciram_page.Tie as tie
 
+abbrev start : tie.After-struct-known4 → tie.Start
+start c = c .before .before .before .before
+
 returns : tie.Need-returns
-returns c = (omega (arith, first-ciram (c .before .before .before .before .args .self)), omega arith)
+returns c = (omega (arith, first-ciram (start c .args .self)), omega arith)
 
 pub ciram-page-spec : {M : Type 1} → statement M
 ciram-page-spec =

@@ -1,5 +1,6 @@
 -- Each place is the callee's, and the region lies in the arena.
 use Prim.Native.Nat.{_+_, _≤_}
+use Rattle.limits.specs.Limits.{arenaMost}
 use Rattle.memory.proofs.Laws.Layout.{region-le}
 use Rattle.memory.specs.declared.layout.Region.{Region}
 use Rattle.memory.specs.Layout.{regionOf, firstPage, pagesBefore, arenaOrder}
@@ -10,7 +11,7 @@ use Rattle.memory.proofs.layout.Layout.region.Tie as tie
 
 -- the definition's region, so one inside the largest arena
 bounded : (c : tie.Start) (r : Region) → r ≡ regionOf (c .args .self) (c .args .battery-ext-len) (c .args .src)
-    → (r ≡ regionOf (c .args .self) (c .args .battery-ext-len) (c .args .src)) × (r .start + r .len ≤ 858112)
+    → (r ≡ regionOf (c .args .self) (c .args .battery-ext-len) (c .args .src)) × (r .start + r .len ≤ arenaMost)
 bounded c r e = (e, rw e (region-le _ _ _ (c .pre .0) (c .pre .1)))
 
 returns : tie.Need-returns

@@ -1,0 +1,45 @@
+-- After i turns the first i entries have the flag.
+use native.Mathlib.Omega.{arith}
+use Prim.Native.Nat.{_-_, _/_}
+use mathlib.Core.Path.{_≡_, refl}
+use Rattle.memory_map.specs.Windows.{withFlag, setWritable}
+use Rattle.memory_map.proofs.Laws.Windows.{Turned, turned-none, turned-next, turned-all}
+use borrow.Author.Needs.{needs}
+use Rattle.memory_map.proofs.windows.set_writable.Statement.{statement}
+use Rattle.memory_map.proofs.windows.set_writable.Tie as tie
+
+abbrev Inv-loop : tie.InvT-loop
+Inv-loop slot size writable count out₀ i₀ out i =
+    (count ≡ size / 1024) × (Turned 64 (λ j old. withFlag writable old) slot count out₀ i out)
+
+abbrev μ-loop : tie.MeasureT-loop
+μ-loop slot size writable count out₀ i₀ out i = count - i
+
+loop-holds : tie.Need-loop-holds Inv-loop μ-loop
+loop-holds c = (refl, turned-none (search needs))
+
+loop-again : tie.Need-loop-again Inv-loop μ-loop
+loop-again c =
+    let v = c .before .before .before .loop .inv in (v .0, rw (c .with-flag .ensures) (turned-next (v .1) (omega arith)))
+
+returns : tie.Need-returns Inv-loop μ-loop
+unfolding setWritable
+returns c = let v = c .before .loop .inv in rw (v .0) at (turned-all (v .1) (omega arith))
+
+pub set-writable-spec : {M : Type 1} → statement M
+set-writable-spec =
+    tie.close
+    (tie.spec
+    Inv-loop
+    μ-loop
+    loop-holds
+    (λ c. search needs)  -- add-at
+    (λ c. search needs)  -- mul-page
+    (λ c. search needs)  -- array-copy-out-page
+    (λ c κs. search needs)  -- with-flag-requires
+    (λ c. search needs)  -- mul-out
+    (λ c. search needs)  -- array-set-from-out
+    (λ c. search needs)  -- add-i
+    (λ c. search needs)  -- loop-less
+    loop-again
+    returns)
