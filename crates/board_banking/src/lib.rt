@@ -70,7 +70,7 @@ fn map_chr_table(chip: Namco163, m: Memory) -> Memory
     ensures { λ r. ⌜ (r ≡ mapChrTable chip m) × (Sized r) ⌝ }
 {
     let board = chip.board;
-    if board.num() == 1 {
+    if board.is_163() {
         return map_slots(chip, m, 12);
     }
     let mirroring = chip.mirroring;

@@ -42,14 +42,6 @@ is340 Is163 = false
 is340 Namco175 = false
 is340 Namco340 = true
 
--- ---- the windows that the board maps, in bytes
-
-abbrev pub prgWindow : ℕ
-prgWindow = 8192
-
-abbrev pub chrWindow : ℕ
-chrWindow = 1024
-
 -- ---- the board with one field replaced, and the registers likewise
 
 abbrev pub withBoard : Namco163 → Board → Namco163

@@ -45,7 +45,7 @@ banks-in banks l e i = go (ltb i 3) refl
   where
     go : (t : Bool) → ltb i 3 ≡ t → getD banks i 0 ≤ bankMost
     go true q = leb-true (getD banks i 0) bankMost (every-at 3 (bankTest banks) e i (ltb-true i 3 q))
-    go false q = rw (List·getD-eq-default banks 0 (omega (arith, ltb-false i 3 q))) (omega arith)
+    go false q = rw (List·getD-eq-default banks 0 {n = i} (omega (arith, ltb-false i 3 q))) (omega arith)
 
 in-banks : (banks : List ℕ) → BanksIn banks → every 3 (bankTest banks) ≡ true
 in-banks banks h = every-all 3 (bankTest banks) (λ i k. le-leb (getD banks i 0) bankMost (h i))

@@ -3,7 +3,7 @@ use Prim.Native.Nat.{ℕ}
 use mathlib.Core.List.{List}
 use lib.ListN.{length, take, drop}
 use Rattle.memory.specs.declared.layout.Src.the-variants.{BatteryExt}
-use Rattle.memory.specs.Bytes.{overlay}
+use Rattle.memory_bytes.specs.Bytes.{overlay}
 use Rattle.memory.specs.Memory.{regionIn}
 use Rattle.sound.specs.Audio.{withRam}
 use Rattle.board_chip.specs.Namco163.{withAudio}

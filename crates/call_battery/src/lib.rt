@@ -8,8 +8,9 @@ ghost use mathlib.Core.Path.{_≡_};
 ghost use Prim.Native.Nat.{_+_, _≤_};
 ghost use lib.ListN.{length, take, drop};
 ghost use Rattle.memory.specs.declared.layout.Src.the-variants.{BatteryExt};
-ghost use Rattle.memory.specs.Bytes.{overlay};
-ghost use Rattle.memory.specs.Memory.{Sized, regionIn};
+ghost use Rattle.memory_bytes.specs.Bytes.{overlay};
+ghost use Rattle.memory.specs.Range.{Sized};
+ghost use Rattle.memory.specs.Memory.{regionIn};
 ghost use Rattle.call_refusals.specs.Refusals.{firstOf, batteryChecks};
 ghost use Rattle.call_battery.specs.Battery.{syncArena, restoreState};
 

@@ -5,7 +5,7 @@ use mathlib.Core.Bool.{cond}
 use mathlib.Core.List.{List}
 use lib.ListN.{length}
 use Rattle.memory.specs.declared.Memory.{Memory}
-use Rattle.memory.specs.Bytes.{prgPeek, prgWrite}
+use Rattle.memory_bytes.specs.Bytes.{prgPeek, prgWrite}
 use Rattle.memory.specs.Changes.{prgChanges, chrChanges}
 use Rattle.board_chip.specs.Reads.{served, byteOr, afterRead}
 use Rattle.board_registers.specs.Writes.{writeChip, remaps}
@@ -15,7 +15,7 @@ use Rattle.board_state.specs.State.{withChip}
 use Rattle.call_cpu.specs.declared.calls.ByteRead.{ByteRead}
 use Rattle.call_cpu.specs.declared.calls.Changed.{Changed}
 use Rattle.call_cpu.specs.declared.calls.Written.{Written}
-use Rattle.call_regions.specs.declared.Peeked.{Peeked}
+use Rattle.call_answers.specs.declared.Peeked.{Peeked}
 use Rattle.call_refusals.specs.Refusals.{firstOf, ifAccepted, cpuChecks}
 
 -- ---- CPU read and peek: "a CPU read is `prg_read`, else `Memory::prg_peek`"

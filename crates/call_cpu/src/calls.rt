@@ -14,8 +14,8 @@ use memory::changes::chr_changes;
 use memory::changes::prg_changes;
 ghost use mathlib.Core.Path.{_≡_};
 ghost use Prim.Native.Nat.{_<_};
-ghost use Rattle.memory.specs.Bytes.{Backed};
-ghost use Rattle.memory.specs.Memory.{Sized};
+ghost use Rattle.memory_bytes.specs.Bytes.{Backed};
+ghost use Rattle.memory.specs.Range.{Sized};
 ghost use Rattle.board_state.specs.State.{inRange};
 ghost use Rattle.call_cpu.specs.Calls.{cpuByte, cpuRead, cpuPeek, writeRegister, changes, refusedWrite, cpuWrite, cpuWriteArena};
 

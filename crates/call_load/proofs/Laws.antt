@@ -8,9 +8,9 @@ use borrow.Author.Tests.{eqb-true, eqb-false, eq-eqb}
 use lib.Dec.{eqb}
 use Rattle.memory.specs.declared.layout.MemoryLayout.{MemoryLayout}
 use Rattle.memory.specs.Layout.{withinLimits, layoutOf}
-use Rattle.memory.specs.Memory.{Sized}
-use Rattle.memory.specs.Mirroring.{setMirroring}
-use Rattle.memory.specs.New.{unmappedMemory, newMemory}
+use Rattle.memory.specs.Range.{Sized}
+use Rattle.memory_map.specs.Mirroring.{setMirroring}
+use Rattle.memory_map.specs.New.{unmappedMemory, newMemory}
 use Rattle.memory.proofs.Laws.Layout.{layout-good}
 use Rattle.board_state.specs.State.{mapperOk}
 use Rattle.limits.proofs.Every.{was-true}

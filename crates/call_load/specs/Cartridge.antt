@@ -8,7 +8,7 @@ use lib.ListN.{length, replicate}
 use Rattle.memory.specs.declared.Memory.{Memory}
 use Rattle.memory.specs.declared.layout.MemoryLayout.{MemoryLayout}
 use Rattle.memory.specs.Layout.{withinLimits}
-use Rattle.memory.specs.New.{newMemory}
+use Rattle.memory_map.specs.New.{newMemory}
 use Rattle.board_chip.specs.Load.{chipAtLoad}
 use Rattle.board_banking.specs.Banking.{updateBanks}
 use Rattle.board_state.specs.declared.State.{State}

@@ -15,11 +15,11 @@ use Rattle.memory.specs.declared.layout.Src.the-variants.{BatteryExt}
 use Rattle.memory.specs.Layout.{regionOf, arenaLen}
 use Rattle.memory.proofs.Laws.Layout.{region-in}
 use Rattle.memory.specs.Memory.{regionIn}
-use Rattle.memory.specs.Bytes.{Backed}
+use Rattle.memory_bytes.specs.Bytes.{Backed}
 use Rattle.board_state.specs.declared.State.{State}
 use Rattle.board_state.specs.State.{inRange}
 use Rattle.limits.proofs.Every.{was-true}
-use Rattle.board_state.proofs.StateRange.{memory-good}
+use Rattle.board_state.proofs.Range.{memory-good}
 use Rattle.call_refusals.specs.Refusals.{Check, firstOf, unlessRefused, stateChecks, resetChecks, arenaChecks, cpuChecks, fillChecks, batteryChecks}
 
 -- ---- any list of checks

@@ -3,7 +3,7 @@ use Prim.Native.Nat.{ℕ}
 use mathlib.Core.List.{List}
 use lib.ListN.{length}
 use Rattle.memory.specs.declared.layout.Src.{Src}
-use Rattle.memory.specs.Bytes.{chrPeek, chrWrite, regionPeek, regionWrite, fillRegion, sramOf}
+use Rattle.memory_bytes.specs.Bytes.{chrPeek, chrWrite, regionPeek, regionWrite, fillRegion, sramOf}
 use Rattle.board_state.specs.declared.State.{State}
 use Rattle.call_answers.specs.declared.Peeked.{Peeked}
 use Rattle.call_regions.specs.declared.BatterySpan.{BatterySpan}

@@ -7,8 +7,8 @@ use lib.Ieee.{Float}
 use Rattle.cut.specs.Counter.{risesFrom}
 use Rattle.cut.specs.Machine.{Clocked}
 use Rattle.sound.specs.declared.audio.Audio.{Audio}
-use Rattle.sound.specs.Clock.{soundClock}
-use Rattle.sound.specs.Mix.{outputOf}
+use Rattle.sound_clock.specs.Clock.{soundClock}
+use Rattle.sound_wave.specs.Mix.{outputOf}
 use Rattle.board_chip.specs.declared.namco163.Regs.{Regs}
 use Rattle.board_chip.specs.declared.namco163.Namco163.{Namco163}
 use Rattle.board_chip.specs.Namco163.{is163, withRegs, withAudio}

@@ -9,9 +9,9 @@ ghost use mathlib.Core.Bool.{true};
 ghost use mathlib.Core.List.{_++_};
 ghost use Prim.Native.Nat.{_≤_};
 ghost use lib.ListN.{length, drop};
-ghost use Rattle.sound.specs.Run.{soundRun, samplesOf};
+ghost use Rattle.sound_clock.specs.Run.{soundRun, samplesOf};
 ghost use Rattle.call_refusals.specs.Refusals.{firstOf};
-ghost use Rattle.board_state.specs.Audio.{audioOk};
+ghost use Rattle.sound.specs.Range.{audioOk};
 ghost use Rattle.board_state.specs.State.{inRange};
 ghost use Rattle.call_run.specs.Run.{made, runChecks, runGave, ranOf};
 

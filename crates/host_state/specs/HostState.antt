@@ -8,7 +8,7 @@ use Rattle.bits.specs.Words.{bytesOf}
 use Rattle.board_state.specs.declared.State.{State}
 use Rattle.call_refusals.specs.Refusals.{Check, firstOf, resetChecks, cpuChecks, stateCheck, ifAccepted}
 use Rattle.call_cpu.specs.Calls.{cpuRead, cpuWrite, cpuWriteArena}
-use Rattle.call_battery.specs.Battery.{resetState}
+use Rattle.call_reset.specs.Reset.{resetState}
 use Rattle.image_write.specs.Image.{imageOf}
 use Rattle.cut.specs.Calls.{RunGave}
 use Rattle.cut.specs.Contract.{lastOr, runBy}

@@ -12,7 +12,7 @@ use Rattle.bits.specs.Words.{wordOf}
 use Rattle.board_state.specs.declared.State.{State}
 use Rattle.board_state.specs.State.{inRange}
 use Rattle.call_refusals.specs.Refusals.{firstOf}
-use Rattle.call_load.specs.Cartridge.{noState}
+use Rattle.board_state.specs.None.{noState}
 use Rattle.image_write.specs.Image.{imageBytes, part, joined, chipWidths}
 use Rattle.image_write.proofs.Ranges.{state-facts, sound-facts}
 use Rattle.image_read.specs.declared.reading.Head.{Head}

@@ -7,7 +7,7 @@ use borrow.Author.Tests.{le-ltb}
 use lib.Dec.{T}
 use lib.Ieee.{binary32, toBits, ofBits, nanBits}
 use lib.Ieee.Bits.{toBits-ofBits, nanBits-above}
-use Rattle.board_state.specs.Audio.{outOk}
+use Rattle.sound.specs.Range.{outOk}
 use Rattle.image_write.proofs.Levels.{out-facts}
 
 no-nan : (n : ℕ) → n ≤ 0x456F1000 → nanBits binary32 n ≡ false

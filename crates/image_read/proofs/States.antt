@@ -19,13 +19,13 @@ use Rattle.memory.specs.Page.{writableOf}
 use Rattle.board_chip.specs.declared.namco163.Board.{Board}
 use Rattle.board_chip.specs.declared.namco163.Board.the-variants.{Unknown, Namco163, Namco175, Namco340}
 use Rattle.board_chip.specs.Namco163.{boardNum}
-use Rattle.sound.specs.Mix.{whole}
+use Rattle.sound.specs.Levels.{whole}
 use Rattle.board_state.specs.declared.State.{State}
-use Rattle.board_state.specs.Audio.{outputTest, phaseTest, levelOk}
+use Rattle.sound.specs.Range.{outputTest, phaseTest, levelOk}
 use Rattle.board_state.specs.State.{inRange}
 use Rattle.limits.specs.Every.{every}
 use Rattle.limits.proofs.Every.{every-at}
-use Rattle.board_state.proofs.TablesRange.{memory-in}
+use Rattle.memory.proofs.Laws.Range.{memory-in}
 use Rattle.image_write.specs.Image.{part, joined, partWidths, partFields, levelNum, pageWidths, pageFields, layoutWidths, widths, fields}
 use Rattle.image_write.specs.Pages.{PagesFit}
 use Rattle.image_write.proofs.Levels.{level-facts, out-facts}

@@ -21,10 +21,10 @@ use Rattle.memory.specs.declared.mirroring.Mirroring.{Mirroring}
 use Rattle.memory.specs.declared.mirroring.Mirroring.the-variants.{Vertical, Horizontal, SingleScreenA, SingleScreenB, FourScreen}
 use Rattle.memory.specs.declared.page.Page.{Page}
 use Rattle.memory.specs.Mirroring.{mirroringNum}
-use Rattle.memory.specs.Memory.{EntryIn}
+use Rattle.memory.specs.Range.{EntryIn}
 use Rattle.memory.specs.Page.{pick, unmapped, pageOf, offsetOf, writableOf}
-use Rattle.sound.specs.Mix.{whole}
-use Rattle.board_state.specs.Audio.{levelOk}
+use Rattle.sound.specs.Levels.{whole}
+use Rattle.sound.specs.Range.{levelOk}
 use Rattle.image_write.specs.Image.{levelNum, pageWidths, pageFields}
 use Rattle.image_write.proofs.Levels.{level-facts}
 use Rattle.image_read.specs.Reading.{yes, boardOf, mirroringOf, pagesOf}

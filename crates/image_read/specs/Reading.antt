@@ -13,7 +13,7 @@ use Rattle.memory.specs.declared.mirroring.Mirroring.the-variants.{Vertical, Ho
 use Rattle.memory.specs.declared.page.Page.{Page}
 use Rattle.memory.specs.Page.{pageOf}
 use Rattle.sound.specs.declared.audio.Audio.{Audio}
-use Rattle.sound.specs.Mix.{whole}
+use Rattle.sound.specs.Levels.{whole}
 use Rattle.board_chip.specs.declared.namco163.Board.{Board}
 use Rattle.board_chip.specs.declared.namco163.Board.the-variants.{Unknown, Namco163 as Is163, Namco175, Namco340}
 use Rattle.board_chip.specs.declared.namco163.Namco163.{Namco163}
@@ -21,7 +21,7 @@ use Rattle.board_chip.specs.declared.namco163.Regs.{Regs}
 use Rattle.board_state.specs.declared.State.{State}
 use Rattle.board_state.specs.State.{inRange}
 use Rattle.call_refusals.specs.Refusals.{Check, firstOf, ifAccepted}
-use Rattle.call_load.specs.Cartridge.{noState}
+use Rattle.board_state.specs.None.{noState}
 use Rattle.image_read.specs.declared.reading.ReadImage.{ReadImage}
 use Rattle.image_write.specs.Image.{part, partWidths, widths}
 use Rattle.image_write.specs.Writing.{imageCheck}

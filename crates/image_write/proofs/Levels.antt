@@ -9,8 +9,9 @@ use lib.Pow.{pow-mono}
 use borrow.Author.Tests.{leb-true, eqb-true, ltb-false}
 use lib.Dec.{T, ltb}
 use lib.Ieee.{Float, binary32, toBits, isNan}
-use Rattle.sound.specs.Mix.{whole}
-use Rattle.board_state.specs.Audio.{outOk, wholePart, levelOk}
+use Rattle.sound.specs.Levels.{whole}
+use Rattle.sound.specs.Range.{outOk, levelOk}
+use Rattle.sound.specs.Levels.{wholePart}
 use Rattle.limits.proofs.Every.{and-left, and-right}
 use Rattle.image_write.specs.Image.{levelNum}
 

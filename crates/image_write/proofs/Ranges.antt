@@ -13,10 +13,10 @@ use Rattle.sound.specs.declared.audio.Audio.{Audio}
 use Rattle.board_state.specs.declared.State.{State}
 use Rattle.limits.specs.Every.{every}
 use Rattle.board_state.specs.State.{mapperOk, bankTest, chipOk, inRange}
-use Rattle.board_state.specs.Audio.{outOk, outputTest, phaseTest, audioOk}
-use Rattle.board_state.specs.Tables.{memoryOk}
+use Rattle.sound.specs.Range.{outOk, outputTest, phaseTest, audioOk}
+use Rattle.memory.specs.Range.{memoryOk}
 use Rattle.limits.proofs.Every.{and-left, and-right, every-at}
-use Rattle.board_state.proofs.TablesRange.{memory-in}
+use Rattle.memory.proofs.Laws.Range.{memory-in}
 use Rattle.image_write.specs.Pages.{PagesFit}
 
 pub record SoundFacts (a : Audio) : Type 0 where

@@ -16,7 +16,7 @@ use Rattle.sound.specs.declared.audio.Audio.{Audio}
 use Rattle.board_chip.specs.declared.namco163.Namco163.{Namco163}
 use Rattle.board_chip.specs.Namco163.{boardNum}
 use Rattle.board_state.specs.declared.State.{State}
-use Rattle.board_state.specs.Audio.{wholePart}
+use Rattle.sound.specs.Levels.{wholePart}
 
 -- "The image is 307 bytes"
 abbrev pub imageBytes : ℕ

@@ -9,7 +9,7 @@ ghost use mathlib.Core.List.{[], _∷_, map};
 ghost use Prim.Native.Nat.{_+_, _*_, _^_, _<_, _≤_};
 ghost use lib.ListN.{getD, replicate};
 ghost use Rattle.bits.specs.Fields.{bit, pack, times, each};
-ghost use Rattle.memory.specs.Layout.{GoodLayout};
+ghost use Rattle.memory.specs.Range.{GoodLayout};
 ghost use Rattle.memory.specs.Mirroring.{mirroringNum};
 ghost use Rattle.memory.specs.Page.{offsetOf};
 ghost use Rattle.board_chip.specs.Namco163.{boardNum};

@@ -26,8 +26,8 @@ ghost use lib.ListN.{length, replicate};
 ghost use Rattle.bits.specs.Cursor.{Held, Wrote};
 ghost use Rattle.limits.specs.Every.{every};
 ghost use Rattle.board_state.specs.State.{bankTest, inRange};
-ghost use Rattle.board_state.specs.Audio.{outOk, outputTest, phaseTest, audioOk};
-ghost use Rattle.board_state.specs.Tables.{memoryOk};
+ghost use Rattle.sound.specs.Range.{outOk, outputTest, phaseTest, audioOk};
+ghost use Rattle.memory.specs.Range.{memoryOk};
 ghost use Rattle.image_write.specs.Image.{imageBytes, chipWidths, chipFields, soundWidths, soundFields, levelNum, memoryWidths, memoryFields, joined, imageOf, byteAt};
 ghost use Rattle.image_write.specs.Writing.{writeRefusal, writtenImage};
 

@@ -2,10 +2,8 @@
 use Prim.Native.Nat.{ℕ, zero, suc, _+_, _≤_, _<_}
 use mathlib.Core.Path.{_≡_, refl, sym}
 use mathlib.Core.Bool.{Bool, true, false, not, _&&_}
-use mathlib.Core.List.{List, [], _∷_}
 use borrow.Author.Tests.{leb-true}
 use lib.Dec.{leb}
-use lib.ListN.{length, getD}
 use mathlib.Core.Logic.{_⊎_, inl, inr}
 use native.Mathlib.Nat.{eq-or-lt-of-le}
 use native.Mathlib.Numerals.{add-one}
@@ -58,9 +56,3 @@ every-all (suc n) p h = both (every n p) (p n) (every-all n p (λ i l. h i (omeg
 pub every-next : (n : ℕ) (p : ℕ → Bool) (a b : Bool) → a ≡ every n p → b ≡ p n → a && b ≡ every (n + 1) p
 unfolding every
 every-next n p a b e f = rw (add-one n, e, f)
-
--- beyond the end a list reads as its default
-pub beyond : {A : Type 0} (l : List A) (i : ℕ) (d : A) → length l ≤ i → getD l i d ≡ d
-beyond [] i d h = refl
-beyond (x ∷ l) zero d h = absurd (omega arith)
-beyond (x ∷ l) (suc i) d h = beyond l i d (omega arith)

@@ -1,5 +1,4 @@
 -- Laws of the definitions, a file for each of specs/; `Lists` has those of any list, `Typed` what the types say.
-pub mod Lists
 pub mod Page
 pub mod Layout
 pub mod Range

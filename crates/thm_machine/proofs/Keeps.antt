@@ -15,7 +15,8 @@ use Rattle.board_state.specs.declared.State.{State}
 use Rattle.call_refusals.specs.Refusals.{firstOf}
 use Rattle.call_cpu.specs.Calls.{cpuRead as cpuReadGives, cpuPeek as cpuPeekGives, cpuWrite as cpuWriteGives, cpuWriteArena}
 use Rattle.call_regions.specs.Regions.{chrRead as chrReadGives, chrWriteArena, fillArena, regionRead, regionWriteArena, sramAnswer}
-use Rattle.call_battery.specs.Battery.{resetState, syncArena, restoreState}
+use Rattle.call_reset.specs.Reset.{resetState}
+use Rattle.call_battery.specs.Battery.{syncArena, restoreState}
 use Rattle.image_write.specs.Writing.{writeRefusal, writtenImage}
 use Rattle.call_run.specs.Clock.{stateClock}
 use Rattle.call_run.specs.Run.{runChecks, runGave}

@@ -8,7 +8,8 @@ use Rattle.board_state.specs.declared.State.{State}
 use Rattle.call_refusals.specs.Refusals.{firstOf, arenaChecks, fillChecks, batteryChecks}
 use Rattle.call_cpu.specs.Calls.{cpuRead as cpuReadGives, cpuPeek as cpuPeekGives, cpuWrite as cpuWriteGives, cpuWriteArena}
 use Rattle.call_regions.specs.Regions.{chrRead as chrReadGives, chrWriteArena, fillArena, regionRead, regionWriteArena, sramAnswer}
-use Rattle.call_battery.specs.Battery.{resetState, syncArena, restoreState}
+use Rattle.call_reset.specs.Reset.{resetState}
+use Rattle.call_battery.specs.Battery.{syncArena, restoreState}
 use Rattle.image_write.specs.Writing.{writeRefusal, writtenImage}
 use Rattle.call_run.specs.Run.{runGave}
 use Rattle.thm_machine.specs.Calls.{Held, Other, cpuRead, cpuPeek, cpuWrite, chrRead, chrWrite, fill, regionPeek, regionWrite, sram, reset, syncBattery, restoreBattery, writeImage, Answer, byte, changed, span, image, done}

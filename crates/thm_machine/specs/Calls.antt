@@ -4,7 +4,7 @@ use Prim.Native.Nat.{ℕ}
 use mathlib.Core.List.{List}
 use Rattle.memory.specs.declared.layout.Src.{Src}
 use Rattle.board_state.specs.declared.State.{State}
-use Rattle.call_cpu.specs.declared.calls.Changed.{Changed}
+use Rattle.memory.specs.declared.changes.Changed.{Changed}
 
 -- what is handed from call to call: the state, and the bytes of the arena
 pub record Held : Type 0 where

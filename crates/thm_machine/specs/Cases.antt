@@ -9,9 +9,10 @@ use Rattle.bits.specs.Fields.{bit}
 use Rattle.memory.specs.declared.layout.MemoryLayout.{MemoryLayout}
 use Rattle.memory.specs.Layout.{layoutOf, arenaLen}
 use Rattle.memory.specs.Page.{unmapped}
-use Rattle.sound.specs.Channel.{lengthOf, levelOf}
-use Rattle.sound.specs.Mix.{whole, mixOf}
-use Rattle.sound.specs.Run.{soundRun, samplesOf}
+use Rattle.sound_wave.specs.Channel.{lengthOf, levelOf}
+use Rattle.sound.specs.Levels.{whole}
+use Rattle.sound_wave.specs.Mix.{mixOf}
+use Rattle.sound_clock.specs.Run.{soundRun, samplesOf}
 use Rattle.board_chip.specs.declared.namco163.Regs.{Regs}
 use Rattle.board_chip.specs.Namco163.{withCounter}
 use Rattle.board_chip.specs.Reset.{noRegs}

@@ -6,7 +6,7 @@ use lib.Ieee.{Float}
 use lib.ListN.{length}
 use Rattle.cut.specs.Machine.{Clocked, Answered, Paper}
 use Rattle.memory.specs.declared.layout.Src.the-variants.{BatteryExt}
-use Rattle.memory.specs.Bytes.{prgWrite, chrPeek, chrWrite as chrStore, regionPeek as regionByte, regionWrite as regionStore, fillRegion, sramOf, overlay}
+use Rattle.memory_bytes.specs.Bytes.{prgWrite, chrPeek, chrWrite as chrStore, regionPeek as regionByte, regionWrite as regionStore, fillRegion, sramOf, overlay}
 use Rattle.memory.specs.Memory.{regionIn}
 use Rattle.sound.specs.Audio.{withRam}
 use Rattle.board_chip.specs.Namco163.{withAudio}
@@ -16,7 +16,8 @@ use Rattle.board_state.specs.declared.State.{State}
 use Rattle.call_refusals.specs.Refusals.{firstOf, Check, stateChecks, resetChecks, arenaChecks, cpuChecks, fillChecks, batteryChecks}
 use Rattle.board_state.specs.State.{withChip}
 use Rattle.call_cpu.specs.Calls.{cpuByte, writeRegister, changes}
-use Rattle.call_battery.specs.Battery.{kindOf, batteryBytes}
+use Rattle.call_reset.specs.Reset.{kindOf}
+use Rattle.call_battery.specs.Battery.{batteryBytes}
 use Rattle.image_write.specs.Image.{imageOf}
 use Rattle.image_write.specs.Writing.{writeChecks}
 use Rattle.call_run.specs.Clock.{stateClock}

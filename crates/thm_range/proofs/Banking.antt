@@ -20,11 +20,11 @@ use Rattle.memory.specs.declared.mirroring.Mirroring.{Mirroring}
 use Rattle.memory.specs.declared.page.Page.{Page}
 use Rattle.memory.specs.Changes.{changed, prgChanges}
 use Rattle.memory.specs.Layout.{regionLen, pagesIn}
-use Rattle.memory.specs.Memory.{Ranged}
-use Rattle.memory.specs.Mirroring.{setMirroring}
+use Rattle.memory.specs.Range.{Ranged}
+use Rattle.memory_map.specs.Mirroring.{setMirroring}
 use Rattle.memory.specs.Page.{unmapped}
-use Rattle.memory.specs.Windows.{mapPages, showPages, unmapPages, setWritable, mapPrg, mapChr, unmapPrg, setPrgWritable}
-use Rattle.memory.proofs.Laws.Memory.{Lengths, each-other, ranged-map-prg, ranged-map-chr, ranged-unmap-prg, ranged-set-writable, ranged-mirroring, lengths-map-prg, lengths-map-chr, lengths-unmap-prg, lengths-set-writable, lengths-mirroring}
+use Rattle.memory_map.specs.Windows.{mapPages, showPages, unmapPages, setWritable, mapPrg, mapChr, unmapPrg, setPrgWritable}
+use Rattle.memory_map.proofs.Laws.Memory.{Lengths, each-other, ranged-map-prg, ranged-map-chr, ranged-unmap-prg, ranged-set-writable, ranged-mirroring, lengths-map-prg, lengths-map-chr, lengths-unmap-prg, lengths-set-writable, lengths-mirroring}
 use Rattle.board_chip.specs.declared.namco163.Namco163.{Namco163}
 use Rattle.board_chip.specs.Namco163.{is163}
 use Rattle.board_chip.specs.Detection.{prgRamReadable}

@@ -15,17 +15,18 @@ use Rattle.memory.specs.declared.Memory.{Memory}
 use Rattle.memory.specs.declared.layout.MemoryLayout.{MemoryLayout}
 use Rattle.memory.specs.declared.layout.Src.{Src}
 use Rattle.memory.specs.declared.layout.Src.the-variants.{BatteryExt}
-use Rattle.memory.specs.Bytes.{store, storedAt, wrappedAt, overlay, fillRegion, prgEntry, chrEntry}
+use Rattle.memory_bytes.specs.Bytes.{store, storedAt, wrappedAt, overlay, fillRegion, prgEntry, chrEntry}
 use Rattle.memory.specs.Changes.{prgChanges}
 use Rattle.memory.specs.Layout.{layoutOf, arenaLen}
-use Rattle.memory.specs.Memory.{Ranged, regionIn}
-use Rattle.memory.specs.Mirroring.{setMirroring}
+use Rattle.memory.specs.Range.{Ranged}
+use Rattle.memory.specs.Memory.{regionIn}
+use Rattle.memory_map.specs.Mirroring.{setMirroring}
 use Rattle.memory.specs.Page.{unmapped}
-use Rattle.memory.specs.New.{unmappedMemory, newMemory}
-use Rattle.memory.proofs.Laws.Bytes.{store-length, overlay-length, region-backed}
-use Rattle.memory.proofs.Laws.Memory.{ranged-new, lengths-new}
-use Rattle.sound.proofs.Range.Channel.{below-set}
-use Rattle.sound.proofs.Range.Registers.{ram-range, ram-typed}
+use Rattle.memory_map.specs.New.{unmappedMemory, newMemory}
+use Rattle.memory_bytes.proofs.Laws.Bytes.{store-length, overlay-length, region-backed}
+use Rattle.memory_map.proofs.Laws.Memory.{ranged-new, lengths-new}
+use Rattle.limits.proofs.Each.{below-set}
+use Rattle.sound.proofs.registers.Range.{ram-range, ram-typed}
 use Rattle.board_chip.specs.declared.namco163.Namco163.{Namco163}
 use Rattle.board_chip.specs.Load.{chipAtLoad}
 use Rattle.board_chip.specs.Reads.{afterRead}
@@ -35,7 +36,8 @@ use Rattle.thm_range.proofs.Chip.{Keeps, after-read-keeps, write-keeps,
 use Rattle.board_banking.specs.Banking.{updateBanks}
 use Rattle.thm_range.proofs.Banking.{Kept as MemoryKept, update-banks-ranged, update-banks-kept, mask-multiple}
 use Rattle.board_state.specs.declared.State.{State}
-use Rattle.board_state.specs.State.{mapperOk, inRange, MemoryInRange, withChip}
+use Rattle.board_state.specs.State.{mapperOk, inRange, withChip}
+use Rattle.memory.specs.Range.{MemoryInRange}
 use Rattle.thm_range.specs.Typed.{Typed}
 use Rattle.limits.proofs.Every.{was-true}
 use Rattle.thm_range.proofs.State.{mapper-in, in-state, state-in, levels-fit}
@@ -43,7 +45,8 @@ use Rattle.call_cpu.specs.declared.calls.Written.{Written}
 use Rattle.call_refusals.specs.Refusals.{firstOf, resetChecks, arenaChecks, cpuChecks, fillChecks, batteryChecks, loadChecks}
 use Rattle.call_cpu.specs.Calls.{cpuRead, writeRegister, changes, refusedWrite, cpuWrite, cpuWriteArena}
 use Rattle.call_regions.specs.Regions.{chrWriteArena, fillArena, regionWriteArena}
-use Rattle.call_battery.specs.Battery.{kindOf, resetState, syncArena, batteryBytes, restoreState}
+use Rattle.call_reset.specs.Reset.{kindOf, resetState}
+use Rattle.call_battery.specs.Battery.{syncArena, batteryBytes, restoreState}
 use Rattle.call_load.specs.Cartridge.{LoadFits, memoryAtLoad, freshState, loadArena}
 use Rattle.call_load.proofs.Laws.{sized-load, load-good}
 use Rattle.call_refusals.proofs.Laws.{accepted-none, cpu-good, fill-good, reset-good, battery-good, backed}

@@ -10,8 +10,8 @@ use lib.ListN.{length, length-set, getD, set, replicate}
 use Rattle.sound.specs.declared.audio.Audio.{Audio}
 use Rattle.sound.specs.Range.{InRange, Typed}
 use Rattle.sound.specs.Registers.{readOf, written}
-use Rattle.sound.proofs.Range.Registers.{written-range, written-typed, advanced-range, advanced-typed}
-use Rattle.sound.proofs.Range.Audio.{fresh-range, fresh-typed}
+use Rattle.sound.proofs.registers.Range.{written-range, written-typed, advanced-range, advanced-typed}
+use Rattle.sound.proofs.audio.Range.{fresh-range, fresh-typed}
 use Rattle.board_chip.specs.declared.namco163.Board.{Board}
 use Rattle.board_chip.specs.declared.namco163.Board.the-variants.{Unknown, Namco163 as Is163, Namco175, Namco340}
 use Rattle.board_chip.specs.declared.namco163.Namco163.{Namco163}

@@ -11,17 +11,19 @@ use Rattle.memory.specs.declared.layout.MemoryLayout.{MemoryLayout}
 use Rattle.memory.specs.declared.layout.Src.{Src}
 use Rattle.board_state.specs.declared.State.{State}
 use Rattle.board_state.specs.State.{chipOk, inRange}
-use Rattle.call_battery.specs.declared.Altered.{Altered}
+use Rattle.call_answers.specs.declared.Altered.{Altered}
 use Rattle.call_cpu.specs.declared.calls.ByteRead.{ByteRead}
-use Rattle.call_regions.specs.declared.Peeked.{Peeked}
+use Rattle.call_answers.specs.declared.Peeked.{Peeked}
 use Rattle.call_cpu.specs.declared.calls.Written.{Written}
 use Rattle.call_regions.specs.declared.BatterySpan.{BatterySpan}
 use Rattle.call_load.specs.declared.Loaded.{Loaded}
 use Rattle.call_refusals.specs.Refusals.{Check, firstOf, ifAccepted, stateChecks, resetChecks, arenaChecks, cpuChecks, fillChecks, batteryChecks, loadChecks}
 use Rattle.call_cpu.specs.Calls.{cpuRead, cpuPeek, refusedWrite, cpuWrite, cpuWriteArena}
 use Rattle.call_regions.specs.Regions.{chrRead, chrWriteArena, fillArena, regionRead, regionWriteArena, sramAnswer}
-use Rattle.call_battery.specs.Battery.{resetState, syncArena, restoreState}
-use Rattle.call_load.specs.Cartridge.{noState, loadAnswer, loadArena}
+use Rattle.call_reset.specs.Reset.{resetState}
+use Rattle.call_battery.specs.Battery.{syncArena, restoreState}
+use Rattle.board_state.specs.None.{noState}
+use Rattle.call_load.specs.Cartridge.{loadAnswer, loadArena}
 
 abbrev pub Accepted : List Check → Type 0
 Accepted cs = firstOf cs ≡ 0

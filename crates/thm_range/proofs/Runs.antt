@@ -12,9 +12,10 @@ use lib.Ieee.{Float}
 use lib.ListN.{length}
 use Rattle.cut.specs.Machine.{Clocked, tick, ticks}
 use Rattle.cut.specs.Contract.{runBy}
-use Rattle.sound.specs.Clock.{soundClock}
+use Rattle.sound_clock.specs.Clock.{soundClock}
 use Rattle.sound.specs.Range.{Typed as AudioTyped}
-use Rattle.sound.proofs.Range.Clock.{clock-range, clock-typed}
+use Rattle.sound.proofs.Range.Clock.{clock-range}
+use Rattle.sound_clock.proofs.Range.Clock.{clock-typed}
 use Rattle.board_chip.specs.declared.namco163.Namco163.{Namco163}
 use Rattle.board_chip.specs.Namco163.{is163, withRegs, withAudio}
 use Rattle.board_chip.specs.Clock.{clockCounter}

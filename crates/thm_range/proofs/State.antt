@@ -18,9 +18,9 @@ use Rattle.board_state.specs.declared.State.{State}
 use Rattle.limits.specs.Every.{every}
 use Rattle.board_state.specs.State.{bankTest, mapperOk, chipOk, inRange, ChipInRange, InRange}
 use Rattle.thm_range.specs.Typed.{Typed}
-use Rattle.board_state.proofs.AudioRange.{audio-in, in-audio}
+use Rattle.sound.proofs.range.Laws.{audio-in, in-audio}
 use Rattle.limits.proofs.Every.{and-left, and-right, both, every-at, every-all, beyond}
-use Rattle.board_state.proofs.TablesRange.{memory-in, in-memory}
+use Rattle.memory.proofs.Laws.Range.{memory-in, in-memory}
 
 -- ---- the mapper number
 

@@ -16,16 +16,17 @@ use lib.Ieee.{Float, binary32, round}
 use Rattle.sound.specs.declared.audio.Audio.{Audio}
 use Rattle.sound.specs.Audio.{withRam, withAddr}
 use Rattle.sound.specs.Registers.{peeked, advanced, readOf, written}
-use Rattle.sound.specs.Channel.{channelCount, baseAddr, frequencyAt, waveLengthAt, waveAddressAt, volumeAt, nibbleAt, nextPhase, levelOf, levelAt}
-use Rattle.sound.specs.Mix.{whole, total, sumOf, mixOf}
-use Rattle.sound.specs.Clock.{nextChannel, updateChannel}
-use Rattle.sound.specs.Run.{samplesOf}
+use Rattle.sound_wave.specs.Channel.{channelCount, baseAddr, frequencyAt, waveLengthAt, waveAddressAt, volumeAt, nibbleAt, nextPhase, levelOf, levelAt}
+use Rattle.sound.specs.Levels.{whole}
+use Rattle.sound_wave.specs.Mix.{total, sumOf, mixOf}
+use Rattle.sound_clock.specs.Clock.{nextChannel, updateChannel}
+use Rattle.sound_clock.specs.Run.{samplesOf}
 use Rattle.sound.specs.Range.{Typed, InRange}
 use Rattle.thm_wiki.specs.Sound.{wikiAddress, wikiAuto, wikiAdvance, wikiBase, wikiFrequency, wikiPhase, wikiStored, wikiLength, wikiWaveAddress, wikiVolume, wikiSample, wikiNextPhase, wikiPlace, wikiLevel, wikiOutput, wikiCount, wikiEnabled, wikiSum, wikiTurn, wikiUpdates, NoPhase, Holds}
-use Rattle.sound.proofs.Range.Channel.{next-phase-small}
-use Rattle.sound.proofs.mix.Laws.{mix-rounds}
+use Rattle.sound_wave.proofs.Range.Channel.{next-phase-small}
+use Rattle.sound_wave.proofs.mix.Laws.{mix-rounds}
 use Rattle.sound.proofs.registers.Laws.{inside, past}
-use Rattle.sound.proofs.run.Laws.{made-closed}
+use Rattle.sound_clock.proofs.run.Laws.{made-closed}
 
 -- ---- the registers of a channel
 

@@ -12,7 +12,7 @@ use Rattle.board_chip.specs.declared.namco163.Namco163.{Namco163}
 use Rattle.board_chip.specs.Namco163.{withRegs, withProtect}
 use Rattle.board_chip.specs.Detection.{prgRamReadable, prgRamWritable}
 use Rattle.board_chr.specs.Slots.{writeNametable, writeC000, writeC800}
-use Rattle.board_prg.specs.Banks.{mirroringOf}
+use Rattle.board_prg.specs.Banks.{mirroringE000}
 use Rattle.board_registers.specs.Writes.{writeChip}
 use Rattle.thm_wiki.specs.Wiki.{wikiUnprotected, wikiRamEnabled}
 use Rattle.thm_wiki.proofs.Tests.{same-test, cond-same}

@@ -4,8 +4,8 @@ use mathlib.Core.Path.{_≡_, subst}
 use borrow.Author.Needs.{needs}
 use lib.ListN.{take, drop}
 use Rattle.sound.proofs.audio.Typed.{typed}
-use Rattle.memory.specs.Bytes.{overlay}
-use Rattle.memory.proofs.Laws.Bytes.{overlay-back}
+use Rattle.memory_bytes.specs.Bytes.{overlay}
+use Rattle.memory_bytes.proofs.Laws.Bytes.{overlay-back}
 use mathlib.Core.List.{_++_}
 use Rattle.call_battery.proofs.put_battery.Statement.{statement}
 use Rattle.call_battery.proofs.put_battery.Tie as tie

@@ -2,7 +2,7 @@
 use mathlib.Core.Path.{_≡_, sym, _∙_}
 use borrow.Author.Needs.{needs}
 use borrow.Author.Tests.{ne-eqb}
-use Rattle.board_state.proofs.StateRange.{memory-good}
+use Rattle.board_state.proofs.Range.{memory-good}
 use Rattle.call_refusals.specs.Refusals.{firstOf, batteryChecks}
 use Rattle.call_refusals.proofs.Laws.{battery-good}
 use lib.ListN.{length}

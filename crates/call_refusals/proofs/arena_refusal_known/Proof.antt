@@ -3,7 +3,7 @@ use mathlib.Core.Path.{_≡_}
 use mathlib.Core.Bool.{cond, not}
 use borrow.Author.Tests.{eq-eqb, ne-eqb}
 use lib.Dec.{eqb}
-use Rattle.board_state.proofs.StateRange.{memory-good}
+use Rattle.board_state.proofs.Range.{memory-good}
 use Rattle.call_refusals.specs.Refusals.{firstOf, arenaChecks}
 use Rattle.call_refusals.proofs.arena_refusal_known.Statement.{statement}
 use Rattle.call_refusals.proofs.arena_refusal_known.Tie as tie

@@ -2,7 +2,7 @@
 use mathlib.Core.Path.{sym, _∙_}
 use borrow.Author.Needs.{needs}
 use borrow.Author.Tests.{lt-ltb, le-ltb}
-use Rattle.board_state.proofs.StateRange.{memory-good}
+use Rattle.board_state.proofs.Range.{memory-good}
 use Rattle.call_refusals.proofs.Laws.{arena-good, arena-refuses, last-refuses, last-passes}
 use Rattle.call_refusals.proofs.fill_refusal.Statement.{statement}
 use Rattle.call_refusals.proofs.fill_refusal.Tie as tie

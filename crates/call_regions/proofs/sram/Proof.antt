@@ -2,7 +2,7 @@
 use mathlib.Core.Path.{sym, _∙_}
 use borrow.Author.Needs.{needs}
 use borrow.Author.Tests.{ne-eqb}
-use Rattle.board_state.proofs.StateRange.{memory-good}
+use Rattle.board_state.proofs.Range.{memory-good}
 use Rattle.call_refusals.proofs.Laws.{state-good}
 use Rattle.call_regions.specs.Regions.{sramAnswer}
 use Rattle.call_regions.proofs.sram.Statement.{statement}

@@ -15,8 +15,9 @@ use Rattle.sound.specs.declared.audio.Audio.{Audio}
 use Rattle.sound.specs.Range.{InRange}
 use Rattle.sound.proofs.audio.Typed.{typed}
 use Rattle.sound.proofs.audio.Audio as Row
-use Rattle.board_state.specs.Audio.{audioOk}
-use Rattle.board_state.proofs.AudioRange.{OutputsFit, audio-in}
+use Rattle.sound.specs.Range.{audioOk}
+use Rattle.board_state.proofs.AudioRange.{OutputsFit}
+use Rattle.sound.proofs.range.Laws.{audio-in}
 
 floats-fit : (xs : List Float) (us : List Val) → shadow (each (f32-field .row .Denot) (f32-field .row .own) (map (λ v. v) xs) us)
     → (i : ℕ) → T (fits binary32 (getD xs i nan))

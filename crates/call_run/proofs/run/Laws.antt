@@ -13,9 +13,9 @@ use Rattle.cut.specs.Contract.{lastOr, runBy}
 use Rattle.cut.specs.Counter.{risesFrom}
 use Rattle.cut.proofs.Machine.{state-more, samples-more, rise-more}
 use Rattle.sound.specs.declared.audio.Audio.{Audio}
-use Rattle.sound.specs.Clock.{soundClock, clockSamples}
-use Rattle.sound.specs.Run.{soundRun, samplesOf}
-use Rattle.sound.proofs.run.Laws.{run-cut, samples-cut, made-closed}
+use Rattle.sound_clock.specs.Clock.{soundClock, clockSamples}
+use Rattle.sound_clock.specs.Run.{soundRun, samplesOf}
+use Rattle.sound_clock.proofs.run.Laws.{run-cut, samples-cut, made-closed}
 use Rattle.board_chip.specs.declared.namco163.Namco163.{Namco163}
 use Rattle.board_chip.specs.Namco163.{is163, withRegs, withAudio}
 use Rattle.board_state.specs.declared.State.{State}

@@ -2,9 +2,9 @@
 use mathlib.Core.Path.{ap, _∙_}
 use mathlib.Core.List.{[]}
 use borrow.Author.Needs.{needs}
-use Rattle.call_battery.specs.declared.Altered.{Altered}
+use Rattle.call_answers.specs.declared.Altered.{Altered}
 use Rattle.call_refusals.specs.Refusals.{resetChecks}
-use Rattle.call_battery.specs.Battery.{resetState}
+use Rattle.call_reset.specs.Reset.{resetState}
 use Rattle.image_write.specs.Writing.{writtenImage}
 use Rattle.thm_range.proofs.Refused.{reset-number}
 use Rattle.thm_range.proofs.Calls.{reset-keeps}

@@ -16,14 +16,14 @@ use Rattle.bits.proofs.Fields.{each-snoc}
 use Rattle.bits.proofs.words.Laws.{length-bytes}
 use Rattle.cut.specs.Calls.{Point}
 use Rattle.cut.specs.Contract.{lastOr, runBy}
-use Rattle.sound.proofs.Range.Run.{samples-number}
+use Rattle.sound_clock.proofs.Range.Run.{samples-number}
 use Rattle.board_chip.specs.Namco163.{is163}
 use Rattle.board_state.specs.declared.State.{State}
 use Rattle.board_state.specs.State.{inRange}
 use Rattle.call_refusals.specs.Refusals.{firstOf}
 use Rattle.call_run.specs.declared.run.Ran.{Ran}
 use Rattle.call_run.specs.Run.{clocks, made, runChecks, ranOf}
-use Rattle.board_state.proofs.StateRange.{counter-small}
+use Rattle.board_state.proofs.Range.{counter-small}
 use Rattle.call_run.proofs.run.Laws.{run-good, made-floor, sounds-samples, silent-samples}
 use Rattle.thm_range.specs.Typed.{Typed}
 use Rattle.thm_range.proofs.State.{state-in}

@@ -29,7 +29,7 @@ use Rattle.memory_map.specs.New.{unmappedMemory, newMemory}
 use Rattle.memory_map.specs.Windows.{withFlag, banksOf, modulo, windowBase, regionPage, eachPage, showPages, mapPages, unmapPages}
 use Rattle.memory_map.specs.Windows.{setWritable, mapPrg, mapChr, unmapPrg, setPrgWritable}
 use Rattle.memory.proofs.Laws.Layout.{region-ends, pages-le, layout-good}
-use Rattle.memory.proofs.Laws.Lists.{each-set}
+use Rattle.limits.proofs.Each.{each-set}
 use Rattle.memory.proofs.Laws.Page.{offset-page, bit-page}
 use Rattle.memory_map.proofs.Laws.Windows.{length-each}
 

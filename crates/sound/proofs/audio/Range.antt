@@ -11,7 +11,7 @@ use Rattle.limits.specs.Limits.{updateMost, channelMost, addressMost, phaseLimi
 use Rattle.sound.specs.declared.audio.Audio.{Audio}
 use Rattle.sound.specs.Audio.{fresh, withCounter}
 use Rattle.sound.specs.Range.{InRange, Typed, Known}
-use Rattle.sound.proofs.Each.{each-replicate}
+use Rattle.limits.proofs.Each.{each-replicate}
 use Rattle.sound.proofs.levels.Laws.{zero-bits}
 
 -- an answer that is a state in range is in range

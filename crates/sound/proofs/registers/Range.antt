@@ -11,7 +11,7 @@ use Rattle.sound.specs.declared.audio.Audio.{Audio}
 use Rattle.sound.specs.Audio.{withRam, withAddr, withDisabled}
 use Rattle.sound.specs.Registers.{within, advanced, written}
 use Rattle.sound.specs.Range.{InRange, Typed}
-use Rattle.sound.proofs.Each.{below-set}
+use Rattle.limits.proofs.Each.{below-set}
 use Rattle.sound.proofs.audio.Range.{other-typed, other-range}
 
 pub ram-typed : (a : Audio) (ram : List ℕ) → length ram ≡ 128 → ((i : ℕ) → getD ram i 0 < 256) → Typed a → Typed (withRam a ram)

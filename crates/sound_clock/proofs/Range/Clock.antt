@@ -12,7 +12,7 @@ use Rattle.limits.specs.Limits.{channelMost, phaseLimit}
 use Rattle.sound.specs.declared.audio.Audio.{Audio}
 use Rattle.sound.specs.Audio.{withCounter}
 use Rattle.sound.specs.Range.{Level, Levels, OutValue, Typed, Known}
-use Rattle.sound.proofs.Each.{each-set, below-set}
+use Rattle.limits.proofs.Each.{each-set, below-set}
 use Rattle.sound.proofs.Floats.Bits.{value-out}
 use Rattle.sound.proofs.audio.Range.{other-typed, other-range, counter-typed, counter-known}
 use Rattle.sound_wave.specs.Channel.{channelCount}
@@ -38,17 +38,16 @@ update-typed a t =
       «ram-length» = t .«ram-length»;
       bytes = t .bytes;
       «outputs-length» = length-set (a .«channel_out») _ _ ∙ t .«outputs-length»;
-      «outputs-fit» = each-set (λ i (x : Float). T (fits binary32 x)) (a .«channel_out») _ _ nan (t .«outputs-fit»)
-          (λ i. ofInt-fits binary32 _);
+      «outputs-fit» = λ i.
+          each-set (λ (x : Float). T (fits binary32 x)) nan (a .«channel_out») _ _ (ofInt-fits binary32 _) i (t .«outputs-fit» i);
       «phases-length» = length-set (a .«phase_ext») _ _ ∙ t .«phases-length»;
       «out-fits» = div-fits binary32 _ _;
     }
 
 update-levels : (a : Audio) → Levels (a .«channel_out») → Levels (updateChannel a .«channel_out»)
 unfolding updateChannel
-update-levels a h =
-    each-set (λ i (x : Float). i < 8 → Level x) (a .«channel_out») _ _ nan h
-    (λ i l. record { size = _; small = level-small _ _ _; is = refl })
+update-levels a h i l =
+    each-set Level nan (a .«channel_out») _ _ (record { size = _; small = level-small _ _ _; is = refl }) i (h i l)
 
 -- after an update `out` is in 0..=3825, finite and no negative zero
 pub update-value : (a : Audio) → Known a → OutValue (updateChannel a .out)

@@ -2,7 +2,7 @@
 use mathlib.Core.Path.{_≡_, sym, _∙_}
 use borrow.Author.Needs.{needs}
 use borrow.Author.Tests.{ne-eqb}
-use Rattle.board_state.proofs.StateRange.{memory-good, port-good}
+use Rattle.board_state.proofs.Range.{memory-good, port-good}
 use Rattle.call_refusals.specs.Refusals.{firstOf, cpuChecks}
 use Rattle.call_refusals.proofs.Laws.{Arena, cpu-good, backed}
 use Rattle.call_cpu.specs.Calls.{cpuWrite, cpuWriteArena}

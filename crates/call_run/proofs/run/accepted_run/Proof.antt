@@ -5,7 +5,7 @@ use lib.ListN.{length}
 use borrow.Author.Needs.{needs}
 use borrow.Author.Tests.{eq-eqb, ne-eqb}
 use Rattle.board_chip.specs.Namco163.{is163}
-use Rattle.board_state.proofs.StateRange.{sound-ok}
+use Rattle.board_state.proofs.Range.{sound-ok}
 use Rattle.call_run.specs.Run.{runGave}
 use Rattle.call_run.proofs.run.Laws.{sounds-state, sounds-samples, silent-state, silent-samples, rise-is, run-good}
 use Rattle.call_run.proofs.run.accepted_run.Statement.{statement}

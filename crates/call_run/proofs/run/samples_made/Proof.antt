@@ -1,7 +1,7 @@
 -- `samples_made` meets its contract: the floor.
 use borrow.Author.Needs.{needs}
 use borrow.Author.Tests.{eq-eqb, ne-eqb}
-use Rattle.board_state.proofs.StateRange.{counter-small}
+use Rattle.board_state.proofs.Range.{counter-small}
 use Rattle.call_run.proofs.run.Laws.{made-floor}
 use Rattle.call_run.proofs.run.samples_made.Statement.{statement}
 use Rattle.call_run.proofs.run.samples_made.Tie as tie

@@ -3,7 +3,7 @@ use mathlib.Core.Path.{refl, sym, ap, _∙_}
 use lib.ListN.{replicate}
 use Rattle.bits.specs.Fields.{total}
 use mathlib.Core.List.{map}
-use Rattle.sound.specs.Mix.{whole}
+use Rattle.sound.specs.Levels.{whole}
 use Rattle.bits.proofs.Fields.{fit-below}
 use Rattle.image_read.proofs.Sections.{section-is}
 use native.Mathlib.Omega.{arith}

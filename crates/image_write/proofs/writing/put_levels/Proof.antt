@@ -9,7 +9,7 @@ use Rattle.bits.specs.Cursor.{Wrote}
 use Rattle.bits.proofs.Fields.{total-replicate}
 use Rattle.bits.proofs.Lists.{getD-map}
 use Rattle.bits.proofs.cursor.Laws.{wrote-none, wrote-suc}
-use Rattle.board_state.specs.Audio.{outputTest}
+use Rattle.sound.specs.Range.{outputTest}
 use Rattle.limits.proofs.Every.{every-at}
 use lib.Ieee.{nan}
 use Rattle.image_write.specs.Image.{byteAt, levelNum}

@@ -6,7 +6,7 @@ use Rattle.bits.specs.Fields.{total}
 use Rattle.bits.proofs.Fields.{times-each}
 use Rattle.bits.proofs.cursor.Laws.{wrote-word}
 use Rattle.image_write.specs.Image.{pageWidths, pageFields, layoutWidths, layoutFields}
-use Rattle.board_state.proofs.TablesRange.{memory-in}
+use Rattle.memory.proofs.Laws.Range.{memory-in}
 use Rattle.image_write.proofs.Parts.{wrote-to, wrote-part, wrote-done}
 use Rattle.image_write.proofs.Ranges.{prg-at, chr-at}
 use native.Mathlib.Omega.{arith}

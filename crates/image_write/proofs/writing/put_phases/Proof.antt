@@ -2,7 +2,7 @@
 use mathlib.Core.Path.{_≡_, refl}
 use lib.ListN.{length, getD}
 use Rattle.bits.specs.Fields.{total}
-use Rattle.board_state.specs.Audio.{phaseTest}
+use Rattle.sound.specs.Range.{phaseTest}
 use Rattle.limits.proofs.Every.{every-at}
 use borrow.Author.Tests.{ltb-true}
 use Rattle.image_write.proofs.Parts.{wrote-to, byte-held, fit-replicate}
