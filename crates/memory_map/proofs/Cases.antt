@@ -6,6 +6,7 @@ use mathlib.Core.List.{List, [], _∷_, _++_, map}
 use lib.Dec.{eqb}
 use lib.IntN.{ℤ, pos, negsuc}
 use lib.ListN.{take, drop, replicate}
+use Rattle.limits.specs.Limits.{prgRomPages, prgRamPages}
 use Rattle.memory.specs.declared.layout.MemoryLayout.{MemoryLayout}
 use Rattle.memory.specs.declared.layout.Src.{Src}
 use Rattle.memory.specs.declared.layout.Src.the-variants.{PrgRom, PrgRam}
@@ -50,17 +51,9 @@ cart prgRom prgRam ciram =
 
 -- ---- windows
 
--- a cart, an address, a bank of a region, and the entries that the window then has
-record Window : Type 0 where
-  cart : MemoryLayout
-  addr : ℕ
-  bank : ℤ
-  src : Src
-  shows : List Page
-
-abbrev prg : Window → Bool
-prg w =
-    same (take 8 (drop (w .addr / 1024) (mapPrg (newMemory (w .cart)) (w .addr) 8192 (w .bank) (w .src) .«prg_pages»))) (w .shows)
+-- whether the window at an address of a cart has these entries once a bank of a region is mapped there
+abbrev prg : MemoryLayout → ℕ → ℤ → Src → List Page → Bool
+prg c addr bank src = same (take 8 (drop (addr / 1024) (mapPrg (newMemory c) addr 8192 bank src .«prg_pages»)))
 
 -- PRG-ROM of so many pages at banks 1, 2, 3F and −1
 record Rom : Type 0 where
@@ -79,7 +72,7 @@ roms =
     ∷ all (8 ∷ 9 ∷ 12 ∷ 15 ∷ []) (from rom 1 8)
     ∷ record { pages = 16 ∷ 17 ∷ 20 ∷ 23 ∷ []; bank1 = from rom 9 8; bank2 = from rom 1 8; bank3F = from rom 9 8; last = from rom 9 8 }
     ∷ record { pages = 24 ∷ []; bank1 = from rom 9 8; bank2 = from rom 17 8; bank3F = from rom 1 8; last = from rom 17 8 }
-    ∷ record { pages = 512 ∷ []; bank1 = from rom 9 8; bank2 = from rom 17 8; bank3F = from rom 505 8; last = from rom 505 8 }
+    ∷ record { pages = prgRomPages ∷ []; bank1 = from rom 9 8; bank2 = from rom 17 8; bank3F = from rom 505 8; last = from rom 505 8 }
     ∷ []
   where
     all : List ℕ → List Page → Rom
@@ -91,7 +84,7 @@ romRight r =
     (r .bank3F) && at n 0xE000 (negsuc 0) (r .last)) (r .pages)
   where
     at : ℕ → ℕ → ℤ → List Page → Bool
-    at n addr b l = prg (record { cart = cart (1024 * n) 8192 2048; addr = addr; bank = b; src = PrgRom; shows = l })
+    at n addr b = prg (cart (1024 * n) 8192 2048) addr b PrgRom
 
 -- PRG-RAM of so many pages at bank 0 in 6000
 record Ram : Type 0 where
@@ -103,13 +96,11 @@ rams =
     record { pages = 1 ∷ []; shows = replicate 8 (ram 41) }
     ∷ record { pages = 2 ∷ []; shows = from ram 41 2 ++ from ram 41 2 ++ from ram 41 2 ++ from ram 41 2 }
     ∷ record { pages = 3 ∷ []; shows = from ram 41 3 ++ from ram 41 3 ++ from ram 41 2 }
-    ∷ record { pages = 8 ∷ 9 ∷ 16 ∷ 64 ∷ []; shows = from ram 41 8 }
+    ∷ record { pages = 8 ∷ 9 ∷ 16 ∷ prgRamPages ∷ []; shows = from ram 41 8 }
     ∷ []
 
 abbrev ramRight : Ram → Bool
-ramRight r =
-    every (λ n. prg (record { cart = cart 32768 (1024 * n) 2048; addr = 0x6000; bank = pos 0; src = PrgRam; shows = r .shows }))
-    (r .pages)
+ramRight r = every (λ n. prg (cart 32768 (1024 * n) 2048) 0x6000 (pos 0) PrgRam (r .shows)) (r .pages)
 
 -- ---- nametables: the pages behind CIRAM's first that the four show, at $2000 and again at $3000
 

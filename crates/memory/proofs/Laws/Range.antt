@@ -4,10 +4,10 @@ use mathlib.Core.Path.{_≡_, refl}
 use mathlib.Core.Bool.{Bool, true, false}
 use mathlib.Core.Logic.{inl, inr}
 use native.Mathlib.Omega.{arith}
-use borrow.Author.Tests.{leb-true, le-leb, eqb-true, eq-eqb, ne-eqb, ltb-true, lt-ltb}
+use borrow.Author.Tests.{leb-true, le-leb, eqb-true, eq-eqb, ne-eqb, ltb-true, lt-ltb, not-true}
 use lib.Dec.{eqb}
 use Rattle.limits.specs.Limits.{usedMost, prgEntries, chrEntries}
-use Rattle.limits.proofs.Every.{was-false, at-most, first-of, every-at, every-all}
+use Rattle.limits.proofs.Every.{at-most, first-of, every-at, every-all}
 use Rattle.memory.specs.declared.Memory.{Memory}
 use Rattle.memory.specs.declared.layout.Layout.{Layout}
 use Rattle.memory.specs.declared.page.Page.{Page}
@@ -70,7 +70,7 @@ unfolding entryOk
 entry-in n p e =
     let h1 = first-of _ _ e in
     let h2 = first-of _ _ (h1 .1) in
-    record { pageStart = eqb-true _ _ (h1 .0); inside = ltb-true _ _ (h2 .0); clear = was-false _ (h2 .1) }
+    record { pageStart = eqb-true _ _ (h1 .0); inside = ltb-true _ _ (h2 .0); clear = not-true _ (h2 .1) }
 
 in-entry : (n : ℕ) (p : Page) → EntryIn n p → entryOk (1024 * n) p ≡ true
 unfolding entryOk

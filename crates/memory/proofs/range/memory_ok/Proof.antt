@@ -2,18 +2,18 @@
 use mathlib.Core.Path.{_≡_, sym, _∙_}
 use mathlib.Core.Bool.{true}
 use borrow.Author.Needs.{needs}
+use borrow.Author.Tests.{not-true, not-false}
 use Rattle.memory.specs.Range.{layoutOk, memoryOk}
-use Rattle.limits.proofs.Every.{was-false, was-true}
 use Rattle.memory.proofs.Laws.Range.{layout-in}
 use Rattle.memory.proofs.range.memory_ok.Statement.{statement}
 use Rattle.memory.proofs.range.memory_ok.Tie as tie
 
 returns : tie.Need-returns
 unfolding memoryOk
-returns c = rw (sym (c .before .layout-ok .ensures) ∙ was-false _ (c .if1 .taken))
+returns c = rw (sym (c .before .layout-ok .ensures) ∙ not-true _ (c .if1 .taken))
 
 layout-passes : (c : tie.Else1) → layoutOk (c .before .before .before .args .m .layout) ≡ true
-layout-passes c = sym (c .before .layout-ok .ensures) ∙ was-true _ (c .if1 .left)
+layout-passes c = sym (c .before .layout-ok .ensures) ∙ not-false _ (c .if1 .left)
 
 arena-len-requires : tie.Need-arena-len-requires
 arena-len-requires c κs = layout-in _ (layout-passes c)
