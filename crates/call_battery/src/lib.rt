@@ -3,6 +3,7 @@ use board_state::State;
 use call_answers::Altered;
 use call_refusals::battery_refusal;
 use memory::layout::Src;
+use memory_bytes::bytes::copy;
 use sound::audio::Audio;
 ghost use mathlib.Core.Path.{_≡_};
 ghost use Prim.Native.Nat.{_+_, _≤_};
@@ -31,11 +32,7 @@ fn put_ram(part: &mut [u8], audio: Audio)
     ensures { λ _. ⌜ now (part .exit) ≡ audio .ram ⌝ }
 {
     let ram = audio.ram;
-    let mut i: usize = 0;
-    while i < 128 {
-        part[i] = ram[i];
-        i += 1;
-    }
+    copy(part, &ram);
 }
 
 fn get_ram(part: &[u8]) -> [u8; Audio::RAM_SIZE]
@@ -43,11 +40,7 @@ fn get_ram(part: &[u8]) -> [u8; Audio::RAM_SIZE]
     ensures { λ r. ⌜ r ≡ now (part .entry) ⌝ }
 {
     let mut ram = [0u8; Audio::RAM_SIZE];
-    let mut i: usize = 0;
-    while i < 128 {
-        ram[i] = part[i];
-        i += 1;
-    }
+    copy(&mut ram, part);
     ram
 }
 

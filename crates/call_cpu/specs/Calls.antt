@@ -4,19 +4,17 @@ use Prim.Native.Nat.{ℕ}
 use mathlib.Core.Bool.{cond}
 use mathlib.Core.List.{List}
 use lib.ListN.{length}
-use Rattle.memory.specs.declared.Memory.{Memory}
 use Rattle.memory_bytes.specs.Bytes.{prgPeek, prgWrite}
-use Rattle.memory.specs.Changes.{prgChanges, chrChanges}
+use Rattle.memory.specs.Changes.{changes, noChanges}
 use Rattle.board_chip.specs.Reads.{served, byteOr, afterRead}
 use Rattle.board_registers.specs.Writes.{writeChip, remaps}
 use Rattle.board_banking.specs.Banking.{updateBanks}
 use Rattle.board_state.specs.declared.State.{State}
 use Rattle.board_state.specs.State.{withChip}
 use Rattle.call_cpu.specs.declared.calls.ByteRead.{ByteRead}
-use Rattle.call_cpu.specs.declared.calls.Changed.{Changed}
 use Rattle.call_cpu.specs.declared.calls.Written.{Written}
 use Rattle.call_answers.specs.declared.Peeked.{Peeked}
-use Rattle.call_refusals.specs.Refusals.{firstOf, ifAccepted, cpuChecks}
+use Rattle.call_refusals.specs.Refusals.{unlessRefused, unlessKept, cpuChecks}
 
 -- ---- CPU read and peek: "a CPU read is `prg_read`, else `Memory::prg_peek`"
 
@@ -27,16 +25,14 @@ cpuByte s arena addr = byteOr (prgPeek arena (s .memory) addr) (served (s .chip)
 -- "`read_register` hands back the byte and moves the address on if auto-increment is set"
 unfoldable pub cpuRead : State → List ℕ → ℕ → ByteRead
 cpuRead s arena addr =
-    let q = firstOf (cpuChecks s (length arena) addr) in
-    ifAccepted q
+    unlessRefused (cpuChecks s (length arena) addr) (λ q. record { refusal = q; byte = 0; state = s })
     (record { refusal = 0; byte = cpuByte s arena addr; state = withChip s (afterRead (s .chip) addr) })
-    (record { refusal = q; byte = 0; state = s })
 
 -- "peek moves nothing"
 unfoldable pub cpuPeek : State → List ℕ → ℕ → Peeked
 cpuPeek s arena addr =
-    let q = firstOf (cpuChecks s (length arena) addr) in
-    ifAccepted q (record { refusal = 0; byte = cpuByte s arena addr }) (record { refusal = q; byte = 0 })
+    unlessRefused (cpuChecks s (length arena) addr) (λ q. record { refusal = q; byte = 0 })
+    (record { refusal = 0; byte = cpuByte s arena addr })
 
 -- ---- CPU write: "a CPU write is `Memory::prg_write`, then `write_register`"
 
@@ -49,27 +45,17 @@ writeRegister s addr v =
       memory = cond (remaps (s .chip .board) (chip .board) addr) (updateBanks chip (s .memory)) (s .memory);
     }
 
--- "A CPU write answers the PRG and CHR pages whose entries changed, how many changed, and the lowest changed page of each table"
-unfoldable pub changes : Memory → Memory → Changed
-changes old new =
-    record { prg = prgChanges (old .«prg_pages») (new .«prg_pages»); chr = chrChanges (old .«chr_pages») (new .«chr_pages») }
-
 -- a refused write's answer
-abbrev pub noChanges : Changed
-noChanges = record { prg = record { mask = 0; count = 0; lowest = 0 }; chr = record { mask = 0; count = 0; lowest = 0 } }
-
 abbrev pub refusedWrite : State → ℕ → Written
 refusedWrite s q = record { refusal = q; state = s; changed = noChanges }
 
--- the state after it, and what changed
+-- "A CPU write answers the PRG and CHR pages whose entries changed, how many changed, and the lowest changed page of each table"
 unfoldable pub cpuWrite : State → List ℕ → ℕ → ℕ → Written
 cpuWrite s arena addr v =
-    let q = firstOf (cpuChecks s (length arena) addr) in
     let t = writeRegister s addr v in
-    ifAccepted q
+    unlessRefused (cpuChecks s (length arena) addr) (refusedWrite s)
     (record { refusal = 0; state = t; changed = changes (s .memory) (t .memory) })
-    (refusedWrite s q)
 
 -- the store comes first, by the entries before the write
 unfoldable pub cpuWriteArena : State → List ℕ → ℕ → ℕ → List ℕ
-cpuWriteArena s arena addr v = ifAccepted (firstOf (cpuChecks s (length arena) addr)) (prgWrite arena (s .memory) addr v) arena
+cpuWriteArena s arena addr v = unlessKept (cpuChecks s (length arena) addr) arena (prgWrite arena (s .memory) addr v)

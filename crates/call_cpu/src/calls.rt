@@ -4,32 +4,27 @@ use board_chip::reads::Served;
 use board_registers::writes;
 use board_state::State;
 use board_state::in_range;
+use call_answers::Peeked;
 use call_refusals::cpu_refusal;
-use call_refusals::cpu_refusal_of;
-use call_regions::Peeked;
-use memory::Memory;
+use call_refusals::cpu_refusal_known;
+use memory::changes::Changed;
 use memory::changes::ChrChanges;
 use memory::changes::PrgChanges;
-use memory::changes::chr_changes;
-use memory::changes::prg_changes;
+use memory::changes::changes_between;
+use memory_bytes::bytes;
 ghost use mathlib.Core.Path.{_≡_};
+ghost use mathlib.Core.Bool.{true};
 ghost use Prim.Native.Nat.{_<_};
 ghost use Rattle.memory_bytes.specs.Bytes.{Backed};
 ghost use Rattle.memory.specs.Range.{Sized};
 ghost use Rattle.board_state.specs.State.{inRange};
-ghost use Rattle.call_cpu.specs.Calls.{cpuByte, cpuRead, cpuPeek, writeRegister, changes, refusedWrite, cpuWrite, cpuWriteArena};
+ghost use Rattle.call_cpu.specs.Calls.{cpuByte, cpuRead, cpuPeek, writeRegister, refusedWrite, cpuWrite, cpuWriteArena};
 
 // A read's answer. In each answer `refusal` is 0 for accepted.
 pub struct ByteRead {
     pub refusal: u8,
     pub byte: u8,
     pub state: State,
-}
-
-// Which entries of the two page tables a write changed.
-pub struct Changed {
-    pub prg: PrgChanges,
-    pub chr: ChrChanges,
 }
 
 // A write's answer.
@@ -49,16 +44,16 @@ fn cpu_byte(s: State, arena: &[u8], addr: u16) -> u8
     let m = s.memory;
     match served {
         Served::Byte(b) => b,
-        Served::Nothing => m.prg_peek(arena, addr),
+        Served::Nothing => bytes::prg_peek(m, arena, addr),
     }
 }
 
-// Whether the state is in range is given, for a caller that knows it.
-pub fn cpu_read_of(good: bool, s: State, arena: &[u8], addr: u16) -> ByteRead
-    requires { ⌜ good ≡ inRange s ⌝ }
+// Of a state that is known to be in range.
+pub fn cpu_read_known(s: State, arena: &[u8], addr: u16) -> ByteRead
+    requires { ⌜ inRange s ≡ true ⌝ }
     ensures { λ r. ⌜ r ≡ cpuRead s (now (arena .entry)) addr ⌝ }
 {
-    let q = cpu_refusal_of(good, s, arena.len(), addr);
+    let q = cpu_refusal_known(s, arena.len(), addr);
     if q != 0 {
         return ByteRead {
             refusal: q,
@@ -81,7 +76,14 @@ pub fn cpu_read_of(good: bool, s: State, arena: &[u8], addr: u16) -> ByteRead
 pub fn cpu_read(s: State, arena: &[u8], addr: u16) -> ByteRead
     ensures { λ r. ⌜ r ≡ cpuRead s (now (arena .entry)) addr ⌝ }
 {
-    cpu_read_of(in_range(s), s, arena, addr)
+    if in_range(s) {
+        return cpu_read_known(s, arena, addr);
+    }
+    ByteRead {
+        refusal: 2,
+        byte: 0,
+        state: s,
+    }
 }
 
 pub fn cpu_peek(s: State, arena: &[u8], addr: u16) -> Peeked
@@ -120,18 +122,6 @@ fn write_register(s: State, addr: u16, val: u8) -> State
     after
 }
 
-fn changes_between(old: Memory, new: Memory) -> Changed
-    ensures { λ r. ⌜ r ≡ changes old new ⌝ }
-{
-    let old_prg = old.prg_pages;
-    let new_prg = new.prg_pages;
-    let old_chr = old.chr_pages;
-    let new_chr = new.chr_pages;
-    let prg = prg_changes(old_prg, new_prg);
-    let chr = chr_changes(old_chr, new_chr);
-    Changed { prg: prg, chr: chr }
-}
-
 fn refused_write(s: State, q: u8) -> Written
     ensures { λ r. ⌜ r ≡ refusedWrite s q ⌝ }
 {
@@ -153,17 +143,17 @@ fn refused_write(s: State, q: u8) -> Written
     }
 }
 
-// Whether the state is in range is given, for a caller that knows it.
-pub fn cpu_write_of(good: bool, s: State, arena: &mut [u8], addr: u16, val: u8) -> Written
-    requires { ⌜ good ≡ inRange s ⌝ }
+// Of a state that is known to be in range.
+pub fn cpu_write_known(s: State, arena: &mut [u8], addr: u16, val: u8) -> Written
+    requires { ⌜ inRange s ≡ true ⌝ }
     ensures { λ r. ⌜ (r ≡ cpuWrite s (now (arena .entry)) addr val) × (now (arena .exit) ≡ cpuWriteArena s (now (arena .entry)) addr val) ⌝ }
 {
-    let q = cpu_refusal_of(good, s, arena.len(), addr);
+    let q = cpu_refusal_known(s, arena.len(), addr);
     if q != 0 {
         return refused_write(s, q);
     }
     let m = s.memory;
-    m.prg_write(arena, addr, val);
+    bytes::prg_write(m, arena, addr, val);
     let after = write_register(s, addr, val);
     let mapped = after.memory;
     let changed = changes_between(m, mapped);
@@ -177,5 +167,8 @@ pub fn cpu_write_of(good: bool, s: State, arena: &mut [u8], addr: u16, val: u8) 
 pub fn cpu_write(s: State, arena: &mut [u8], addr: u16, val: u8) -> Written
     ensures { λ r. ⌜ (r ≡ cpuWrite s (now (arena .entry)) addr val) × (now (arena .exit) ≡ cpuWriteArena s (now (arena .entry)) addr val) ⌝ }
 {
-    cpu_write_of(in_range(s), s, arena, addr, val)
+    if in_range(s) {
+        return cpu_write_known(s, arena, addr, val);
+    }
+    refused_write(s, 2)
 }

@@ -6,6 +6,7 @@ use board_state::none::no_state;
 use call_refusals::load_refusal;
 use memory::Memory;
 use memory::layout::MemoryLayout;
+use memory_map::new::new_memory;
 use sound::audio::Audio;
 ghost use mathlib.Core.Path.{_≡_};
 ghost use mathlib.Core.Bool.{true};
@@ -34,7 +35,7 @@ fn memory_at_load(mapper: u64, sizes: MemoryLayout) -> Memory
     requires { ⌜ withinLimits sizes ≡ true ⌝ }
     ensures { λ r. ⌜ r ≡ memoryAtLoad mapper sizes ⌝ }
 {
-    let mut m = Memory::new(sizes);
+    let mut m = new_memory(sizes);
     if mapper == 19 {
         m.battery_ext_len = Audio::RAM_SIZE;
         return m;

@@ -6,6 +6,7 @@ use call_refusals::arena_refusal;
 use call_refusals::fill_refusal;
 use call_refusals::state_refusal;
 use memory::layout::Src;
+use memory_bytes::bytes;
 ghost use mathlib.Core.Path.{_≡_};
 ghost use lib.ListN.{length};
 ghost use Rattle.call_refusals.specs.Refusals.{firstOf, arenaChecks, fillChecks};
@@ -31,7 +32,7 @@ pub fn chr_read(s: State, arena: &[u8], addr: u16) -> Peeked
     let m = s.memory;
     Peeked {
         refusal: 0,
-        byte: m.chr_peek(arena, addr),
+        byte: bytes::chr_peek(m, arena, addr),
     }
 }
 
@@ -44,7 +45,7 @@ pub fn chr_write(s: State, arena: &mut [u8], addr: u16, val: u8) -> u8
         return q;
     }
     let m = s.memory;
-    m.chr_write(arena, addr, val);
+    bytes::chr_write(m, arena, addr, val);
     0
 }
 
@@ -57,7 +58,7 @@ pub fn fill(s: State, arena: &mut [u8], src: Src, bytes: &[u8]) -> u8
         return q;
     }
     let m = s.memory;
-    m.fill(arena, src, bytes);
+    bytes::fill(m, arena, src, bytes);
     0
 }
 
@@ -74,7 +75,7 @@ pub fn region_peek(s: State, arena: &[u8], src: Src, offset: u64) -> Peeked
     let m = s.memory;
     Peeked {
         refusal: 0,
-        byte: m.region_peek(arena, src, offset),
+        byte: bytes::region_peek(m, arena, src, offset),
     }
 }
 
@@ -87,7 +88,7 @@ pub fn region_write(s: State, arena: &mut [u8], src: Src, offset: u64, val: u8) 
         return q;
     }
     let m = s.memory;
-    m.region_write(arena, src, offset, val);
+    bytes::region_write(m, arena, src, offset, val);
     0
 }
 
@@ -103,7 +104,7 @@ pub fn sram(s: State) -> BatterySpan
         };
     }
     let m = s.memory;
-    let span = m.sram();
+    let span = bytes::sram(m);
     BatterySpan {
         refusal: 0,
         start: span.start,

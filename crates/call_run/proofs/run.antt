@@ -1,3 +1,2 @@
 -- The laws of specs/Run.antt, and the proofs of src/run.rt.
 pub mod Laws
-pub mod Floats

@@ -24,6 +24,10 @@ made n s = length (clocks n s .stretch .samples)
 abbrev pub runLimit : ℕ
 runLimit = 65536
 
+-- as many samples as a run can make; `samples-most` says that it is what the longest run makes from the greatest update counter
+abbrev pub samplesMost : ℕ
+samplesMost = 4370
+
 abbrev pub lengthCheck : ℕ → Check
 lengthCheck n = record { number = 10; holds = ltb runLimit n }
 

@@ -15,11 +15,11 @@ pub fn clock(chip: Namco163) -> Namco163
     let mut next = chip;
     next.regs = regs;
     let board = next.board;
-    if board.num() != 1 {
+    if !board.is_163() {
         return next;
     }
     let audio = next.audio;
-    let after = audio.clock();
+    let after = sound_clock::clock::clock(audio);
     next.audio = after;
     next
 }

@@ -3,7 +3,7 @@ use crate::clock::run_counter;
 use board_state::State;
 use board_state::in_range;
 use sound::audio::Audio;
-use sound::run::SoundRan;
+use sound_clock::run::SoundRan;
 ghost use mathlib.Core.Path.{_≡_};
 ghost use mathlib.Core.Bool.{true};
 ghost use mathlib.Core.List.{_++_};
@@ -14,6 +14,12 @@ ghost use Rattle.call_refusals.specs.Refusals.{firstOf};
 ghost use Rattle.sound.specs.Range.{audioOk};
 ghost use Rattle.board_state.specs.State.{inRange};
 ghost use Rattle.call_run.specs.Run.{made, runChecks, runGave, ranOf};
+
+// The most clocks of a run.
+pub const RUN_LIMIT: u64 = 65_536;
+
+// As many samples as a run can make: that many clocks from the greatest update counter.
+pub const SAMPLES_MOST: usize = 4_370;
 
 // A run's answer: its refusal or 0, the samples made, the clock of the rise, from 1, or 0, and the state.
 pub struct Ran {
@@ -30,7 +36,7 @@ fn samples_made(s: State, n: u32) -> usize
 {
     let chip = s.chip;
     let board = chip.board;
-    if board.num() != 1 {
+    if !board.is_163() {
         return 0;
     }
     if chip.audio.disabled {
@@ -39,20 +45,17 @@ fn samples_made(s: State, n: u32) -> usize
     ((chip.audio.update_counter as usize) + (n as usize)) / 15
 }
 
-fn run_refusal(good: bool, s: State, n: u64, room: usize) -> u8
-    requires { ⌜ good ≡ inRange s ⌝ }
+fn run_refusal_known(s: State, n: u64, room: usize) -> u8
+    requires { ⌜ inRange s ≡ true ⌝ }
     ensures { λ r. ⌜ r ≡ firstOf (runChecks s n room) ⌝ }
 {
-    if good {
-        if 65536 < n {
-            return 10;
-        }
-        if room < samples_made(s, n as u32) {
-            return 11;
-        }
-        return 0;
+    if RUN_LIMIT < n {
+        return 10;
     }
-    2
+    if room < samples_made(s, n as u32) {
+        return 11;
+    }
+    0
 }
 
 // The sound's clocks, by updates.
@@ -61,7 +64,7 @@ fn run_sound(audio: Audio, n: u32, samples: &mut [f32]) -> SoundRan
     ensures { λ r. ⌜ (r .audio ≡ soundRun n audio) × (r .made ≡ length (samplesOf n audio)) ⌝ }
     ensures { λ r. ⌜ now (samples .exit) ≡ samplesOf n audio ++ drop (length (samplesOf n audio)) (now (samples .entry)) ⌝ }
 {
-    audio.run(n, samples)
+    sound_clock::run::run(audio, n, samples)
 }
 
 fn accepted_run(s: State, n: u32, samples: &mut [f32]) -> Ran
@@ -75,7 +78,7 @@ fn accepted_run(s: State, n: u32, samples: &mut [f32]) -> Ran
     chip.regs = next;
     let board = chip.board;
     let mut after = s;
-    if board.num() != 1 {
+    if !board.is_163() {
         after.chip = chip;
         return Ran {
             refusal: 0,
@@ -97,12 +100,12 @@ fn accepted_run(s: State, n: u32, samples: &mut [f32]) -> Ran
     }
 }
 
-// Whether the state is in range is given, for a caller that knows it.
-pub fn run_of(good: bool, s: State, n: u64, samples: &mut [f32]) -> Ran
-    requires { ⌜ good ≡ inRange s ⌝ }
+// Of a state that is known to be in range.
+pub fn run_known(s: State, n: u64, samples: &mut [f32]) -> Ran
+    requires { ⌜ inRange s ≡ true ⌝ }
     ensures { λ r. ⌜ (r ≡ ranOf (runGave s n (now (samples .entry)))) × (now (samples .exit) ≡ runGave s n (now (samples .entry)) .samples) ⌝ }
 {
-    let q = run_refusal(good, s, n, samples.len());
+    let q = run_refusal_known(s, n, samples.len());
     if q != 0 {
         return Ran {
             refusal: q,
@@ -117,5 +120,13 @@ pub fn run_of(good: bool, s: State, n: u64, samples: &mut [f32]) -> Ran
 pub fn run(s: State, n: u64, samples: &mut [f32]) -> Ran
     ensures { λ r. ⌜ (r ≡ ranOf (runGave s n (now (samples .entry)))) × (now (samples .exit) ≡ runGave s n (now (samples .entry)) .samples) ⌝ }
 {
-    run_of(in_range(s), s, n, samples)
+    if in_range(s) {
+        return run_known(s, n, samples);
+    }
+    Ran {
+        refusal: 2,
+        made: 0,
+        rise: 0,
+        state: s,
+    }
 }

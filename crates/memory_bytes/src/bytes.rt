@@ -46,7 +46,7 @@ fn page_write(page: Page, arena: &mut [u8], addr: u16, val: u8)
 }
 
 // Copies a slice over one of the same length.
-fn copy(dst: &mut [u8], src: &[u8])
+pub fn copy(dst: &mut [u8], src: &[u8])
     requires { ⌜ length (now src) ≡ length (now dst) ⌝ }
     ensures { λ r. ⌜ now (dst .exit) ≡ now (src .entry) ⌝ }
 {

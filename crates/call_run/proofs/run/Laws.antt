@@ -8,6 +8,8 @@ use borrow.Author.Needs.{needs}
 use lib.Dec.{eqb}
 use lib.Ieee.{Float}
 use lib.ListN.{length}
+use native.Mathlib.Omega.{arith}
+use Rattle.limits.specs.Limits.{updateMost}
 use Rattle.cut.specs.Machine.{ofOption, ticks}
 use Rattle.cut.specs.Contract.{lastOr, runBy}
 use Rattle.cut.specs.Counter.{risesFrom}
@@ -21,7 +23,7 @@ use Rattle.board_chip.specs.Namco163.{is163, withRegs, withAudio}
 use Rattle.board_state.specs.declared.State.{State}
 use Rattle.board_state.specs.State.{withChip, inRange}
 use Rattle.call_run.specs.Clock.{soundSample, chipClock, stateClock, counterRun, counterRise}
-use Rattle.call_run.specs.Run.{clocks, made, runChecks, runGave}
+use Rattle.call_run.specs.Run.{clocks, made, runLimit, samplesMost, runChecks, runGave}
 use borrow.Author.Tests.{ltb-false}
 use Rattle.limits.proofs.Every.{was-true}
 use Rattle.call_refusals.specs.Refusals.{firstOf}
@@ -136,7 +138,7 @@ rise-is n s = after-rise s (is163 (s .chip .board)) refl n
 
 -- ---- "Samples are floor((u + n) / 15), u the update counter, or 0 when disabled or not a 163."
 
-pub made-floor : (n : ℕ) (s : State) → s .chip .audio .«update_counter» ≤ 14
+pub made-floor : (n : ℕ) (s : State) → s .chip .audio .«update_counter» ≤ updateMost
     → made n s ≡ cond (is163 (s .chip .board)) (cond (s .chip .audio .disabled) 0 ((s .chip .audio .«update_counter» + n) / 15)) 0
 unfolding made
 made-floor n s u = go (is163 (s .chip .board)) refl
@@ -146,11 +148,23 @@ made-floor n s u = go (is163 (s .chip .board)) refl
     go true e = rw (sounds-samples n s e) (made-closed n (s .chip .audio) u)
     go false e = rw (silent-samples n s e)
 
+-- the most samples of a run follow from its limit, and no run makes more
+pub samples-most : (updateMost + runLimit) / 15 ≡ samplesMost
+samples-most = refl
+
+pub made-most : (n : ℕ) (s : State) → s .chip .audio .«update_counter» ≤ updateMost → n ≤ runLimit → made n s ≤ samplesMost
+made-most n s u l = rw (made-floor n s u) (go (is163 (s .chip .board)) (s .chip .audio .disabled))
+  where
+    go : (b d : Bool) → cond b (cond d 0 ((s .chip .audio .«update_counter» + n) / 15)) 0 ≤ samplesMost
+    go true true = omega arith
+    go true false = omega arith
+    go false d = omega arith
+
 -- ---- refused runs, and what an accepted one knows
 
 pub record RunGood (s : State) (n room : ℕ) : Type 0 where
   pub good : inRange s ≡ true
-  pub short : n ≤ 65536
+  pub short : n ≤ runLimit
   pub enough : length (clocks n s .stretch .samples) ≤ room
 
 pub run-good : (s : State) (n room : ℕ) → firstOf (runChecks s n room) ≡ 0 → RunGood s n room
@@ -159,7 +173,7 @@ run-good s n room e =
     let h = accepted-none (runChecks s n room) (search needs) e in
     record {
       good = was-true (inRange s) (h .0);
-      short = ltb-false 65536 n (h .1 .0);
+      short = ltb-false runLimit n (h .1 .0);
       enough = ltb-false room (made n s)
           (h .1 .1 .0);
     }

@@ -3,7 +3,7 @@ use mathlib.Core.Path.{_≡_, sym, _∙_}
 use mathlib.Core.Bool.{true}
 use lib.ListN.{length}
 use borrow.Author.Needs.{needs}
-use borrow.Author.Tests.{eq-eqb, ne-eqb}
+use borrow.Author.Tests.{not-true, not-false}
 use Rattle.board_chip.specs.Namco163.{is163}
 use Rattle.board_state.proofs.Range.{sound-ok}
 use Rattle.call_run.specs.Run.{runGave}
@@ -15,7 +15,7 @@ returns : tie.Need-returns
 unfolding runGave
 returns c =
     let c1 = c .before in let c3 = c1 .before .before in let c7 = c3 .before .before .before .before in
-    let a = c7 .args in let p = ne-eqb _ _ (λ e. c .if1 .taken (c1 .num .ensures .0 ∙ e)) in (
+    let a = c7 .args in let p = sym (c1 .is-163 .ensures) ∙ not-true (c1 .is-163 .result) (c .if1 .taken) in (
       rw (
         c7 .pre,
         silent-state (a .n) (a .s) p,
@@ -28,7 +28,7 @@ returns c =
     )
 
 is-163 : (c : tie.Else1) → is163 (c .before .before .before .before .before .before .before .args .s .chip .board) ≡ true
-is-163 c = eq-eqb _ _ (sym (c .before .num .ensures .0) ∙ c .if1 .left)
+is-163 c = sym (c .before .is-163 .ensures) ∙ not-false (c .before .is-163 .result) (c .if1 .left)
 
 run-sound-requires : tie.Need-run-sound-requires
 run-sound-requires c κs =
@@ -60,7 +60,7 @@ accepted-run-spec =
     tie.close
     (tie.spec
     (λ c κs. search needs)  -- run-counter-requires
-    (λ c κs. search needs)  -- num-requires
+    (λ c κs. search needs)  -- is-163-requires
     returns
     run-sound-requires
     (λ c. search needs)  -- same-length

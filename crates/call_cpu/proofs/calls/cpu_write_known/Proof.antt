@@ -1,4 +1,4 @@
--- `cpu_write_of` meets its contract: refused, and accepted. The store comes before the registers.
+-- `cpu_write_known` meets its contract: refused, and accepted. The store comes before the registers.
 use mathlib.Core.Path.{_≡_, sym, _∙_}
 use borrow.Author.Needs.{needs}
 use borrow.Author.Tests.{ne-eqb}
@@ -7,21 +7,21 @@ use Rattle.call_refusals.specs.Refusals.{firstOf, cpuChecks}
 use Rattle.call_refusals.proofs.Laws.{Arena, cpu-good, backed}
 use Rattle.call_cpu.specs.Calls.{cpuWrite, cpuWriteArena}
 use lib.ListN.{length}
-use Rattle.call_cpu.proofs.calls.cpu_write_of.Statement.{statement}
-use Rattle.call_cpu.proofs.calls.cpu_write_of.Tie as tie
+use Rattle.call_cpu.proofs.calls.cpu_write_known.Statement.{statement}
+use Rattle.call_cpu.proofs.calls.cpu_write_known.Tie as tie
 
 returns : tie.Need-returns
 unfolding cpuWrite cpuWriteArena
 returns c =
     let c1 = c .before in let c2 = c1 .before in (
-      rw (← c2 .cpu-refusal-of .ensures, ne-eqb _ _ (c1 .if1 .taken)) (c .refused-write .ensures),
-      rw (← c2 .cpu-refusal-of .ensures, ne-eqb _ _ (c1 .if1 .taken)),
+      rw (← c2 .cpu-refusal-known .ensures, ne-eqb _ _ (c1 .if1 .taken)) (c .refused-write .ensures),
+      rw (← c2 .cpu-refusal-known .ensures, ne-eqb _ _ (c1 .if1 .taken)),
     )
 
 -- none of the checks holds
 accepted : (c : tie.Else1) → let a = c .before .before .before .args in
     firstOf (cpuChecks (a .s) (length (a .arena .now)) (a .addr)) ≡ 0
-accepted c = sym (c .before .cpu-refusal-of .ensures) ∙ c .if1 .left
+accepted c = sym (c .before .cpu-refusal-known .ensures) ∙ c .if1 .left
 
 good : (c : tie.Else1) → let a = c .before .before .before .args in Arena (a .s) (length (a .arena .now))
 good c = cpu-good _ _ (c .before .before .before .args .addr) (accepted c) .0
@@ -42,11 +42,11 @@ returns-2 c =
       rw (accepted c8) (c5 .prg-write .ensures),
     )
 
-pub cpu-write-of-spec : {M : Type 1} → statement M
-cpu-write-of-spec =
+pub cpu-write-known-spec : {M : Type 1} → statement M
+cpu-write-known-spec =
     tie.close
     (tie.spec
-    (λ c κs. search needs)  -- cpu-refusal-of-requires
+    (λ c κs. search needs)  -- cpu-refusal-known-requires
     (λ c κs. search needs)  -- refused-write-requires
     returns
     prg-write-requires
