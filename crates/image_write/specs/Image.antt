@@ -8,6 +8,7 @@ use lib.ListN.{getD, replicate}
 use Rattle.bits.specs.Fields.{pack, bit, times, each}
 use Rattle.bits.specs.Words.{bytesOf}
 use Rattle.bits.specs.declared.cursor.Cursor.{Cursor}
+use Rattle.limits.specs.Limits.{usedMost}
 use Rattle.memory.specs.declared.Memory.{Memory}
 use Rattle.memory.specs.declared.page.Page.{Page}
 use Rattle.memory.specs.Mirroring.{mirroringNum}
@@ -89,7 +90,7 @@ layoutFields m =
     ∷ m .layout .chr
     ∷ bit (m .layout .«chr_writable»)
     ∷ m .layout .ciram
-    ∷ bit (eqb (m .«battery_ext_len») 128)
+    ∷ bit (eqb (m .«battery_ext_len») usedMost)
     ∷ []
 
 abbrev pub memoryWidths : List (List ℕ)

@@ -13,6 +13,7 @@ use Rattle.board_state.specs.Audio.{outputTest}
 use Rattle.limits.proofs.Every.{every-at}
 use lib.Ieee.{nan}
 use Rattle.image_write.specs.Image.{byteAt, levelNum}
+use Rattle.image_write.specs.Sections.{levelsAt, outAt}
 use Rattle.image_write.proofs.Levels.{LevelFacts, level-facts}
 use Rattle.image_write.proofs.Parts.{wrote-to, byte-held}
 use native.Mathlib.Omega.{arith}
@@ -22,14 +23,14 @@ use Rattle.image_write.proofs.writing.put_levels.Tie as tie
 
 abbrev Inv-loop : tie.InvT-loop
 Inv-loop img₀ outs c₀ i₀ img c i =
-    (i ≤ 8) × (length outs ≡ 8) × (length img ≡ length img₀) × Wrote img₀ img (byteAt 153) c (replicate i 12)
+    (i ≤ 8) × (length outs ≡ 8) × (length img ≡ length img₀) × Wrote img₀ img (byteAt levelsAt) c (replicate i 12)
     (take i (map levelNum outs))
 
 abbrev μ-loop : tie.MeasureT-loop
 μ-loop img₀ outs c₀ i₀ img c i = 8 - i
 
 loop-holds : tie.Need-loop-holds Inv-loop μ-loop
-loop-holds c = (omega arith, search needs, refl, wrote-none (c .before .args .img .now) (byteAt 153) (byte-held 153))
+loop-holds c = (omega arith, search needs, refl, wrote-none (c .before .args .img .now) (byteAt levelsAt) (byte-held levelsAt))
 
 -- what the test of the outputs says of output i
 level : (c : tie.Start Inv-loop μ-loop) (i : ℕ) → i < 8 → LevelFacts (getD (c .args .t2) i nan)
@@ -68,7 +69,7 @@ loop-again c =
       omega arith,
       l .inv .1,
       omega arith,
-      wrote-suc (s .args .img .now) (l .img) (c2 .put .last .0) (byteAt 153) (l .c) (c2 .put .result) 12 (map levelNum xs) (l .i)
+      wrote-suc (s .args .img .now) (l .img) (c2 .put .last .0) (byteAt levelsAt) (l .c) (c2 .put .result) 12 (map levelNum xs) (l .i)
           (rw length-map (omega arith)) (l .inv .3)
           (rw (getD-map levelNum xs (l .i) nan 0 (omega arith), ← c3 .whole-part .ensures .0) (c2 .put .ensures)),
     )
@@ -79,7 +80,7 @@ returns c =
     let xs = c .before .before .before .args .t2 in
     let l = c .before .loop in
     let e : l .i ≡ 8 = omega arith in
-    wrote-to _ _ 153 165 _ _ _ (omega arith) (rw (e, take-all 8 (map levelNum xs) (rw length-map (omega arith))) at (l .inv .3))
+    wrote-to _ _ levelsAt outAt _ _ _ (omega arith) (rw (e, take-all 8 (map levelNum xs) (rw length-map (omega arith))) at (l .inv .3))
 
 pub put-levels-spec : {M : Type 1} → statement M
 put-levels-spec =
