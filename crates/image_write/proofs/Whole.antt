@@ -1,6 +1,6 @@
 -- The fields fill the image, and each section starts where the widths of the parts before it end.
 use mathlib.Core.Path.{_≡_, refl}
-use mathlib.Core.List.{List, [], _∷_, map}
+use mathlib.Core.List.{[], _∷_, map}
 use Prim.Native.Nat.{ℕ, _*_}
 use lib.ListN.{take}
 use Rattle.bits.specs.Fields.{total, times}

@@ -1,5 +1,5 @@
--- Where the sections of an image start, in bytes; `imageBytes` (Image.antt) is the end of the last. src/sections.rt has the same as constants.
--- proofs/Whole.antt `places` says that each starts where the widths of the parts before it end.
+-- Where the sections of an image start, in bytes; `imageBytes` (Image.antt) is the end of the last. src/sections.rt has the same as
+-- constants. proofs/Whole.antt `places` says that each starts where the widths of the parts before it end.
 use Prim.Native.Nat.{ℕ}
 
 -- the board: registers and board numbers, detection, CIRAM flags, CHR banks, PRG banks

@@ -39,7 +39,8 @@ fn put_eight(img: &mut [u8], at: usize, g: [Page; 8])
 // Each table goes by eight entries.
 pub fn put_prg_pages(img: &mut [u8], pages: [Page; 64])
     requires { ⌜ (length (now img) ≡ imageBytes) × PagesFit 64 pages ⌝ }
-    ensures { λ _. ⌜ Wrote (now (img .entry)) (now (img .exit)) (byteAt prgPagesAt) (byteAt chrPagesAt) (times 64 pageWidths) (each pageFields pages) ⌝ }
+    ensures { λ _. ⌜ Wrote (now (img .entry)) (now (img .exit)) (byteAt prgPagesAt) (byteAt chrPagesAt)
+        (times 64 pageWidths) (each pageFields pages) ⌝ }
 {
     let mut k: usize = 0;
     while k < 8 {
@@ -59,7 +60,8 @@ pub fn put_prg_pages(img: &mut [u8], pages: [Page; 64])
 
 pub fn put_chr_pages(img: &mut [u8], pages: [Page; 16])
     requires { ⌜ (length (now img) ≡ imageBytes) × PagesFit 16 pages ⌝ }
-    ensures { λ _. ⌜ Wrote (now (img .entry)) (now (img .exit)) (byteAt chrPagesAt) (byteAt layoutAt) (times 16 pageWidths) (each pageFields pages) ⌝ }
+    ensures { λ _. ⌜ Wrote (now (img .entry)) (now (img .exit)) (byteAt chrPagesAt) (byteAt layoutAt)
+        (times 16 pageWidths) (each pageFields pages) ⌝ }
 {
     let mut k: usize = 0;
     while k < 2 {

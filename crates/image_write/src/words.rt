@@ -39,7 +39,9 @@ fn mirroring_num(m: Mirroring) -> u8
 
 // The registers, the board and its numbers in 53 bits.
 pub fn regs_word(regs: Regs, board: Board, mapper: u16, submapper: u8) -> u64
-    ensures { λ r. ⌜ r ≡ pack (16 ∷ 1 ∷ 1 ∷ 1 ∷ 8 ∷ 2 ∷ 16 ∷ 8 ∷ []) (regs .«irq_counter» ∷ bit (regs .«irq_pending») ∷ bit (regs .«nt_select_lo») ∷ bit (regs .«nt_select_hi») ∷ regs .«prg_ram_protect» ∷ boardNum board ∷ mapper ∷ submapper ∷ []) ⌝ }
+    ensures { λ r. ⌜ r ≡ pack (16 ∷ 1 ∷ 1 ∷ 1 ∷ 8 ∷ 2 ∷ 16 ∷ 8 ∷ [])
+        (regs .«irq_counter» ∷ bit (regs .«irq_pending») ∷ bit (regs .«nt_select_lo») ∷ bit (regs .«nt_select_hi»)
+        ∷ regs .«prg_ram_protect» ∷ boardNum board ∷ mapper ∷ submapper ∷ []) ⌝ }
     ensures { λ r. ⌜ r < 2 ^ 53 ⌝ }
 {
     let pending = bit_of(regs.irq_pending);

@@ -36,7 +36,8 @@ ghost use Rattle.limits.specs.Every.{every};
 ghost use Rattle.board_state.specs.State.{bankTest, inRange};
 ghost use Rattle.board_state.specs.Audio.{outOk, outputTest, phaseTest, audioOk};
 ghost use Rattle.board_state.specs.Tables.{memoryOk};
-ghost use Rattle.image_write.specs.Image.{imageBytes, chipWidths, chipFields, soundWidths, soundFields, levelNum, memoryWidths, memoryFields, joined, imageOf, byteAt};
+ghost use Rattle.image_write.specs.Image.{imageBytes, chipWidths, chipFields, soundWidths};
+ghost use Rattle.image_write.specs.Image.{soundFields, levelNum, memoryWidths, memoryFields, joined, imageOf, byteAt};
 ghost use Rattle.image_write.specs.Sections.{chipAt, ramAt, portAt, levelsAt, outAt, phasesAt, prgPagesAt};
 ghost use Rattle.image_write.specs.Writing.{writeRefusal, writtenImage};
 
@@ -114,7 +115,8 @@ fn put_phases(img: &mut [u8], phases: [u32; 8])
 
 fn put_chip(img: &mut [u8], chip: Namco163)
     requires { ⌜ (length (now img) ≡ imageBytes) × (every 3 (bankTest (chip .«prg_banks»)) ≡ true) ⌝ }
-    ensures { λ _. ⌜ Wrote (now (img .entry)) (now (img .exit)) (byteAt chipAt) (byteAt ramAt) (joined chipWidths) (joined (chipFields chip)) ⌝ }
+    ensures { λ _. ⌜ Wrote (now (img .entry)) (now (img .exit)) (byteAt chipAt) (byteAt ramAt)
+        (joined chipWidths) (joined (chipFields chip)) ⌝ }
 {
     let regs = chip.regs;
     let board = chip.board;
@@ -146,7 +148,8 @@ fn put_chip(img: &mut [u8], chip: Namco163)
 
 fn put_sound(img: &mut [u8], audio: Audio)
     requires { ⌜ (length (now img) ≡ imageBytes) × (audioOk audio ≡ true) ⌝ }
-    ensures { λ _. ⌜ Wrote (now (img .entry)) (now (img .exit)) (byteAt ramAt) (byteAt prgPagesAt) (joined soundWidths) (joined (soundFields audio)) ⌝ }
+    ensures { λ _. ⌜ Wrote (now (img .entry)) (now (img .exit)) (byteAt ramAt) (byteAt prgPagesAt)
+        (joined soundWidths) (joined (soundFields audio)) ⌝ }
 {
     let ram = audio.ram;
     put_ram(img, ram);
@@ -173,7 +176,8 @@ fn put_sound(img: &mut [u8], audio: Audio)
 
 fn put_memory(img: &mut [u8], m: Memory)
     requires { ⌜ (length (now img) ≡ imageBytes) × (memoryOk m ≡ true) ⌝ }
-    ensures { λ _. ⌜ Wrote (now (img .entry)) (now (img .exit)) (byteAt prgPagesAt) (byteAt imageBytes) (joined memoryWidths) (joined (memoryFields m)) ⌝ }
+    ensures { λ _. ⌜ Wrote (now (img .entry)) (now (img .exit)) (byteAt prgPagesAt) (byteAt imageBytes)
+        (joined memoryWidths) (joined (memoryFields m)) ⌝ }
 {
     let prg = m.prg_pages;
     put_prg_pages(img, prg);

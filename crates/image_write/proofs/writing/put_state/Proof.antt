@@ -3,7 +3,8 @@ use mathlib.Core.Path.{_≡_, refl, sym, _∙_}
 use lib.ListN.{length, length-map}
 use Rattle.bits.specs.Fields.{bit}
 use Rattle.bits.proofs.cursor.Laws.{finish}
-use Rattle.image_write.specs.Image.{imageBytes, widths, fields, imageOf, chipWidths, chipFields, soundWidths, soundFields, memoryWidths, memoryFields, levelNum}
+use Rattle.image_write.specs.Image.{imageBytes, widths, fields, imageOf}
+use Rattle.image_write.specs.Image.{chipWidths, chipFields, soundWidths, soundFields, memoryWidths, memoryFields, levelNum}
 use Rattle.image_write.proofs.Parts.{_then_, SameLengths, wrote-parts}
 use Rattle.image_write.proofs.Whole.{total-widths}
 use Rattle.image_write.proofs.Ranges.{state-facts}
