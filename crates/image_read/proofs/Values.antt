@@ -27,31 +27,31 @@ use Rattle.sound.specs.Mix.{whole}
 use Rattle.board_state.specs.Audio.{levelOk}
 use Rattle.image_write.specs.Image.{levelNum, pageWidths, pageFields}
 use Rattle.image_write.proofs.Levels.{level-facts}
-use Rattle.image_read.specs.Reading.{yes, boardOf, mirroringOf, pagesOf}
+use Rattle.image_read.specs.Reading.{isSet, boardNumbered, mirroringNumbered, pagesOf}
 
 -- ---- one element
 
-pub bit-back : (b : Bool) → yes (bit b) ≡ b
+pub bit-back : (b : Bool) → isSet (bit b) ≡ b
 bit-back true = refl
 bit-back false = refl
 
-pub yes-back : (v : ℕ) → v < 2 → bit (yes v) ≡ v
-yes-back v h = sym (bit-eqb v h)
+pub is-set-back : (v : ℕ) → v < 2 → bit (isSet v) ≡ v
+is-set-back v h = sym (bit-eqb v h)
 
-pub board-back : (b : Board) → boardOf (boardNum b) ≡ b
+pub board-back : (b : Board) → boardNumbered (boardNum b) ≡ b
 board-back Unknown = refl
 board-back Namco163 = refl
 board-back Namco175 = refl
 board-back Namco340 = refl
 
-pub board-num : (v : ℕ) → v < 4 → boardNum (boardOf v) ≡ v
+pub board-num : (v : ℕ) → v < 4 → boardNum (boardNumbered v) ≡ v
 board-num zero h = refl
 board-num (suc zero) h = refl
 board-num (suc (suc zero)) h = refl
 board-num (suc (suc (suc zero))) h = refl
 board-num (suc (suc (suc (suc v)))) h = absurd (let z : ⊥ = omega arith in z)
 
-pub mirroring-back : (m : Mirroring) → mirroringOf (mirroringNum m) ≡ m
+pub mirroring-back : (m : Mirroring) → mirroringNumbered (mirroringNum m) ≡ m
 mirroring-back Vertical = refl
 mirroring-back Horizontal = refl
 mirroring-back SingleScreenA = refl
@@ -65,7 +65,7 @@ mirroring-most SingleScreenA = omega arith
 mirroring-most SingleScreenB = omega arith
 mirroring-most FourScreen = omega arith
 
-pub mirroring-num : (v : ℕ) → v ≤ 4 → mirroringNum (mirroringOf v) ≡ v
+pub mirroring-num : (v : ℕ) → v ≤ 4 → mirroringNum (mirroringNumbered v) ≡ v
 mirroring-num zero h = refl
 mirroring-num (suc zero) h = refl
 mirroring-num (suc (suc zero)) h = refl
@@ -79,9 +79,10 @@ level-back x f e =
     ∙ ap (ofBits binary32) (level-facts x e .same)
     ∙ ofBits-toBits binary32 x f
 
-whole-back : (n : ℕ) → n ≤ 16777216 → toUnsigned 32 (whole n) ≡ n
+-- whole numbers up to 2 ^ 24 are floats
+whole-back : (n : ℕ) → n ≤ 2 ^ 24 → toUnsigned 32 (whole n) ≡ n
 unfolding inFloat
-whole-back n h = unsigned-back binary32 32 n (le→leb n 16777216 h) (omega arith) .1
+whole-back n h = unsigned-back binary32 32 n (le→leb n (2 ^ 24) h) (omega arith) .1
 
 pub level-num : (n : ℕ) → n < 4096 → levelOk (whole n) ≡ true → levelNum (whole n) ≡ n
 level-num n h e =
@@ -89,7 +90,7 @@ level-num n h e =
     ∙ ap (toUnsigned 32) (level-back (whole n) (ofInt-fits binary32 (pos n)) e)
     ∙ whole-back n (omega arith)
 
-pub page-back : (n : ℕ) (p : Page) → p .0 < 2 ^ 32 → EntryIn n p → pageOf (1024 * (offsetOf p / 1024)) (yes (bit (writableOf p)))
+pub page-back : (n : ℕ) (p : Page) → p .0 < 2 ^ 32 → EntryIn n p → pageOf (1024 * (offsetOf p / 1024)) (isSet (bit (writableOf p)))
     ≡ p
 page-back n p h e =
     let c = eqb-false (p .0 / 2 ^ 30 % 2) 1 (e .clear) in
@@ -157,7 +158,7 @@ pages-num zero (v ∷ vs) f = absurd f
 pages-num (suc n) [] f = absurd f
 pages-num (suc n) (v ∷ []) f = absurd (f .1)
 pages-num (suc n) (v ∷ w ∷ vs) f =
-    let a = page-number v (yes w) (f .0) in
-    let b : bit (writableOf (pageOf (1024 * v) (yes w))) ≡ w = ap bit (page-flag v (yes w) (f .0)) ∙ yes-back w (f .1 .0) in
+    let a = page-number v (isSet w) (f .0) in
+    let b : bit (writableOf (pageOf (1024 * v) (isSet w))) ≡ w = ap bit (page-flag v (isSet w) (f .0)) ∙ is-set-back w (f .1 .0) in
     let r = pages-num n vs (f .1 .1) in
     λ i. a i ∷ b i ∷ r i
