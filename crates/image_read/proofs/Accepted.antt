@@ -1,6 +1,6 @@
 -- Which images are accepted, by their board's words and the bits of `out`, and the state that they hold.
 use mathlib.Core.Path.{_≡_, refl, ap, ap₂, _∙_}
-use mathlib.Core.Bool.{Bool, true, false, _&&_}
+use mathlib.Core.Bool.{Bool, true, false, _&&_, and-false}
 use mathlib.Core.List.{List}
 use Prim.Native.Nat.{ℕ, _-_, _/_, _%_, _^_, _≤_, _<_}
 use native.Mathlib.Omega.{arith}
@@ -69,11 +69,7 @@ module _ (img : List ℕ) (h : Head) (bits : ℕ) (o : Opened img h bits) where
 
   pub refused-range : inRange held ≡ false → readImage img ≡ record { refusal = 2; state = noState }
   refused-range e = refused-fields img (o .long)
-      (ok-is ∙ ap (λ (t : Bool). leb (h .detection / 2 % 8) 4 && t) e ∙ and-no (leb (h .detection / 2 % 8) 4))
-    where
-      and-no : (b : Bool) → b && false ≡ false
-      and-no true = refl
-      and-no false = refl
+      (ok-is ∙ ap (λ (t : Bool). leb (h .detection / 2 % 8) 4 && t) e ∙ and-false (leb (h .detection / 2 % 8) 4))
 
   pub refused-out : outMost < bits → readImage img ≡ record { refusal = 2; state = noState }
   unfolding soundAt

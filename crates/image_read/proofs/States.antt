@@ -9,7 +9,7 @@ use borrow.Author.Tests.{ltb-true}
 use lib.Dec.{eqb}
 use lib.Ieee.{nan, binary32}
 use lib.Ieee.Bits.{ofBits-toBits}
-use lib.ListN.{length, getD, replicate}
+use lib.ListN.{length, getD, replicate, length-map}
 use Rattle.bits.specs.Fields.{Fit, bit, times, each}
 use Rattle.bits.proofs.Fields.{fit-length, fit-below, bit-lt}
 use Rattle.bits.proofs.Lists.{listed-is, getD-map}
@@ -37,7 +37,7 @@ use Rattle.image_read.specs.Typed.{Typed}
 use Rattle.image_read.proofs.Out.{out-back}
 use Rattle.image_read.proofs.Parts.{FitParts, fit-cut, joined-cut, fit-get}
 use Rattle.image_read.proofs.Values.{bit-back, is-set-back, board-back, board-num, mirroring-back, mirroring-most, mirroring-num}
-use Rattle.image_read.proofs.Values.{level-back, level-num, map-back, map-num, pages-back, pages-num}
+use Rattle.image_read.proofs.Values.{level-back, level-num, map-back, pages-back, pages-num}
 
 used-back : (u : ℕ) (b : ℕ) → (u ≡ 0) ⊎ ((u ≡ usedMost) × (1 ≤ b)) → usedMost * bit (eqb u usedMost) ≡ u
 used-back u b (inl e) = rw e
@@ -72,11 +72,8 @@ module _ (s : State) (t : Typed s) (e : inRange s ≡ true) where
 
 fit-map : {A : Type 0} (f : A → ℕ) (d : A) (n w : ℕ) (xs : List A) → length xs ≡ n
     → ((i : ℕ) → i < n → f (getD xs i d) < 2 ^ w) → Fit (replicate n w) (map f xs)
-fit-map f d zero w [] e h = tt
-fit-map f d zero w (x ∷ xs) e h = absurd (let z : ⊥ = omega arith in z)
-fit-map f d (suc n) w [] e h = absurd (let z : ⊥ = omega arith in z)
-fit-map f d (suc n) w (x ∷ xs) e h =
-    (h 0 (omega arith), fit-map f d n w xs (omega arith) (λ i l. h (suc i) (omega arith)))
+fit-map f d n w xs e h =
+    fit-replicate n w (map f xs) (length-map xs f ∙ e) (λ i l. rw (getD-map f xs i d 0 (omega (arith, e))) (h i l))
 
 fit-pages : (n : ℕ) (xs : List Page) → length xs ≡ n → PagesFit n xs → Fit (times n pageWidths) (each pageFields xs)
 unfolding times each
@@ -163,14 +160,14 @@ module _ (vs : List ℕ) (f : Fit widths vs) (ok : inRange (stateOf vs) ≡ true
         is-set-at w1 p1 f1 2 (omega arith) refl,
       ) (listed-is 0 3 p1 (sym (fit-length w1 p1 f1))) in
       let p2 = part ps 2 in let f2 = fp .1 .1 .0 in
-      let flags = map-num bit isSet p2 (λ i h. is-set-back (getD p2 i 0) (fit-below 12 1 p2 f2 i)) in
+      let flags = map-back isSet bit 0 p2 (λ i h. is-set-back (getD p2 i 0) (fit-below 12 1 p2 f2 i)) in
       let f6-on = fp .1 .1 .1 .1 .1 .1 in
       let p6 = part ps 6 in let w6 = part partWidths 6 in let f6 = f6-on .0 in
       let port : part (partFields s) 6 ≡ p6 =
       rw (is-set-at w6 p6 f6 1 (omega arith) refl, is-set-at w6 p6 f6 2 (omega arith) refl)
       (listed-is 0 5 p6 (sym (fit-length w6 p6 f6))) in
       let p7 = part ps 7 in let f7 = f6-on .1 .0 in
-      let levels = map-num levelNum whole p7
+      let levels = map-back whole levelNum 0 p7
       (λ i h. level-num (getD p7 i 0) (fit-below 8 12 p7 f7 i)
       (level-of p7 (g .outputs) i (omega (arith, fit-length (part partWidths 7) p7 f7)) h)) in
       let p8 = part ps 8 in let w8 = part partWidths 8 in let f8 = f6-on .1 .1 .0 in

@@ -131,17 +131,11 @@ page-flag n false h = let e : (0 + 1024 * n % 2 ^ 30) / 2 ^ 31 % 2 ≡ 0 = omega
 
 -- ---- arrays
 
-pub map-back : {A : Type 0} (f : A → ℕ) (g : ℕ → A) (d : A) (xs : List A)
+pub map-back : {A B : Type 0} (f : A → B) (g : B → A) (d : A) (xs : List A)
     → ((i : ℕ) → i < length xs → g (f (getD xs i d)) ≡ getD xs i d) → map g (map f xs) ≡ xs
 map-back f g d [] h = refl
-map-back {A =
-    A} f g d (x ∷ xs) h = ap₂ (λ (y : A) (ys : List A). y ∷ ys) (h 0 (omega arith))
-    (map-back f g d xs (λ i l. h (suc i) (omega arith)))
-
-pub map-num : {A : Type 0} (f : A → ℕ) (g : ℕ → A) (vs : List ℕ) → ((i : ℕ) → i < length vs → f (g (getD vs i 0)) ≡ getD vs i 0)
-    → map f (map g vs) ≡ vs
-map-num f g [] h = refl
-map-num f g (v ∷ vs) h = ap₂ (λ (y : ℕ) (ys : List ℕ). y ∷ ys) (h 0 (omega arith)) (map-num f g vs (λ i l. h (suc i) (omega arith)))
+map-back {A} f g d (x ∷ xs) h =
+    ap₂ (λ (y : A) (ys : List A). y ∷ ys) (h 0 (omega arith)) (map-back f g d xs (λ i l. h (suc i) (omega arith)))
 
 pub pages-back : (n : ℕ) (xs : List Page) → ((i : ℕ) → getD xs i unmapped .0 < 2 ^ 32)
     → ((i : ℕ) → i < length xs → EntryIn n (getD xs i unmapped)) → pagesOf (each pageFields xs) ≡ xs

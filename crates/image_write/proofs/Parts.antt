@@ -72,10 +72,6 @@ fit-replicate (suc n) w (x ∷ xs) e h =
 
 -- ---- parts one behind the other
 
-pub wrote-done : (a : List ℕ) (k : ℕ) → Wrote a a (byteAt k) (byteAt k) (joined []) (joined [])
-unfolding joined
-wrote-done a k = wrote-none a (byteAt k) (byte-held k)
-
 pub wrote-part : (a b c : List ℕ) (u v w : Cursor) (ws vs : List ℕ) (wss vss : List (List ℕ)) → length ws ≡ length vs
     → Wrote a b u v ws vs → Wrote b c v w (joined wss) (joined vss) → Wrote a c u w (joined (ws ∷ wss)) (joined (vs ∷ vss))
 unfolding joined

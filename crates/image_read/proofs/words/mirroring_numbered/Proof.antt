@@ -6,8 +6,8 @@ use Rattle.image_read.proofs.words.mirroring_numbered.Tie as tie
 
 returns-5 : tie.Need-returns-5
 returns-5 c =
-    let c1 = c .before in let c2 = c1 .before in let c3 = c2 .before in let c4 = c3 .before in
-    mirroring-else (c4 .args .n) (c3 .if1 .left) (c2 .if2 .left) (c1 .if3 .left) (c .if4 .left)
+    let not-2 = c .before in let not-1 = not-2 .before in let not-0 = not-1 .before in
+    mirroring-else (not-0 .before .args .n) (not-0 .if1 .left) (not-1 .if2 .left) (not-2 .if3 .left) (c .if4 .left)
 
 pub mirroring-numbered-spec : {M : Type 1} → statement M
 mirroring-numbered-spec =

@@ -38,40 +38,35 @@ level c i h = level-facts _ (every-at 8 (outputTest (c .args .t2)) (c .pre .1) i
 
 float-to-bits-bits : tie.Need-float-to-bits-bits Inv-loop μ-loop
 float-to-bits-bits c =
-    let c1 = c .before in let c3 = c1 .before .before in
-    level c3 (c1 .loop .i) (omega arith) .out .number
+    let at-test = c .before in level (at-test .before .before) (at-test .loop .i) (omega arith) .out .number
 
 whole-part-requires : tie.Need-whole-part-requires Inv-loop μ-loop
 whole-part-requires c κs =
-    let c2 = c .before .before in let c4 = c2 .before .before in
-    level c4 (c2 .loop .i) (omega arith) .out .bits
+    let at-test = c .before .before in level (at-test .before .before) (at-test .loop .i) (omega arith) .out .bits
 
 put-requires : tie.Need-put-requires Inv-loop μ-loop
 unfolding total
 put-requires c κs =
-    let c3 = c .before .before .before in let c5 = c3 .before .before in
-    let l = c3 .loop in (
+    let at-test = c .before .before .before in let l = at-test .loop in let s = at-test .before .before in (
       l .inv .3 .held,
       (
         omega arith,
-        omega (arith, level c5 (l .i) (omega arith) .small, c .whole-part .ensures .0),
+        omega (arith, level s (l .i) (omega arith) .small, c .whole-part .ensures .0),
         omega (arith, l .inv .3 .pos, total-replicate (l .i) 12),
       ),
     )
 
 loop-again : tie.Need-loop-again Inv-loop μ-loop
 loop-again c =
-    let c2 = c .before .before in let c3 = c2 .before in let c6 = c3 .before .before .before in
-    let c8 = c6 .before .before in
-    let l = c6 .loop in
-    let s = c8 in
+    let put = c .before .before in let part = put .before in let at-test = part .before .before .before in
+    let l = at-test .loop in let s = at-test .before .before in
     let xs = s .args .t2 in (
       omega arith,
       l .inv .1,
       omega arith,
-      wrote-suc (s .args .img .now) (l .img) (c2 .put .last .0) (byteAt levelsAt) (l .c) (c2 .put .result) 12 (map levelNum xs) (l .i)
+      wrote-suc (s .args .img .now) (l .img) (put .put .last .0) (byteAt levelsAt) (l .c) (put .put .result) 12 (map levelNum xs) (l .i)
           (rw length-map (omega arith)) (l .inv .3)
-          (rw (getD-map levelNum xs (l .i) nan 0 (omega arith), ← c3 .whole-part .ensures .0) (c2 .put .ensures)),
+          (rw (getD-map levelNum xs (l .i) nan 0 (omega arith), ← part .whole-part .ensures .0) (put .put .ensures)),
     )
 
 returns : tie.Need-returns Inv-loop μ-loop

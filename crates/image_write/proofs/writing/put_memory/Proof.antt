@@ -7,7 +7,7 @@ use Rattle.bits.proofs.Fields.{times-each}
 use Rattle.image_write.specs.Image.{imageBytes, pageWidths, pageFields, layoutWidths, layoutFields}
 use Rattle.image_write.specs.Sections.{layoutAt}
 use Rattle.board_state.proofs.TablesRange.{memory-in}
-use Rattle.image_write.proofs.Parts.{wrote-to, wrote-fields, wrote-part, wrote-done}
+use Rattle.image_write.proofs.Parts.{wrote-to, wrote-fields, wrote-part, wrote-end, byte-held}
 use Rattle.image_write.proofs.Ranges.{prg-at, chr-at}
 use native.Mathlib.Omega.{arith}
 use borrow.Author.Needs.{needs}
@@ -55,7 +55,7 @@ returns c =
     (wrote-part _ _ _ _ _ _ layoutWidths (layoutFields m) [] [] refl
     (wrote-to _ _ layoutAt imageBytes _ _ _ (omega arith)
     (wrote-fields layoutWidths (layoutFields m) (word .layout-word .ensures .0) (last .put .ensures)))
-    (wrote-done _ imageBytes)))
+    (wrote-end _ _ (byte-held imageBytes))))
 
 pub put-memory-spec : {M : Type 1} → statement M
 put-memory-spec =

@@ -5,7 +5,7 @@ use lib.ListN.{length, length-map}
 use Rattle.bits.specs.Fields.{total}
 use Rattle.image_write.specs.Image.{part, soundWidths, soundFields, levelNum}
 use Rattle.image_write.specs.Sections.{portAt, levelsAt, prgPagesAt}
-use Rattle.image_write.proofs.Parts.{wrote-to, wrote-fields, wrote-part, wrote-done}
+use Rattle.image_write.proofs.Parts.{wrote-to, wrote-fields, wrote-part, wrote-end, byte-held}
 use Rattle.image_write.proofs.Ranges.{SoundFacts, sound-facts}
 use native.Mathlib.Omega.{arith}
 use borrow.Author.Needs.{needs}
@@ -70,7 +70,7 @@ returns c =
     (sym (length-map (a .«channel_out») levelNum ∙ long-channel-out s)) (levelled .put-levels .ensures)
     (wrote-part _ _ _ _ _ _ (part soundWidths 3) (part f 3) _ _ refl (outs .put-out .ensures)
     (wrote-part _ _ _ _ _ _ (part soundWidths 4) (part f 4) [] [] (sym (long-phase-ext s)) (last .put-phases .ensures)
-    (wrote-done _ prgPagesAt)))))
+    (wrote-end _ _ (byte-held prgPagesAt))))))
 
 pub put-sound-spec : {M : Type 1} → statement M
 put-sound-spec =
