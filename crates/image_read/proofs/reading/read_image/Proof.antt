@@ -9,12 +9,8 @@ use Rattle.image_read.proofs.reading.read_image.Tie as tie
 returns : tie.Need-returns
 returns c = c .refused .ensures ∙ sym (refused-length _ (c .before .if1 .taken))
 
--- before all, and after the board was read
 abbrev start : tie.After-read-head → tie.Start
 start c = c .before .before .before .before
-
-abbrev board : tie.Else3 → tie.After-read-head
-board c = c .before .before .before
 
 -- what is known of the image once its board was read
 opened : (c : tie.After-read-head) → Opened (start c .args .img .now) (c .read-head .result) (c .before .load .result)
@@ -41,14 +37,14 @@ returns-4 c =
     let tested = c .before in let read = tested .before in let below = read .before in
     let s = read .read-fields .ensures in
     rw s
-    (sym (accepted-state _ _ _ (opened (board below)) (below .if3 .left) (rw s at (sym (tested .in-range .ensures) ∙ c .if4 .taken))))
+    (sym (accepted-state _ _ _ (opened (below .before .before .before)) (below .if3 .left) (rw s at (sym (tested .in-range .ensures) ∙ c .if4 .taken))))
 
 returns-5 : tie.Need-returns-5
 returns-5 c =
-    let failed = c .before in let tested = failed .before in let read = tested .before in
+    let failed = c .before in let tested = failed .before in let read = tested .before in let below = read .before in
     let s = read .read-fields .ensures in
     c .refused4 .ensures
-    ∙ sym (refused-range _ _ _ (opened (board (read .before))) (rw s at (sym (tested .in-range .ensures) ∙ failed .if4 .left)))
+    ∙ sym (refused-range _ _ _ (opened (below .before .before .before)) (rw s at (sym (tested .in-range .ensures) ∙ failed .if4 .left)))
 
 pub read-image-spec : {M : Type 1} → statement M
 read-image-spec =

@@ -14,15 +14,12 @@ use borrow.Author.Needs.{needs}
 use Rattle.image_write.proofs.writing.put_memory.Statement.{statement}
 use Rattle.image_write.proofs.writing.put_memory.Tie as tie
 
--- the places after each table was written, and before both
+-- the places before both tables, and after the PRG entries were written
 abbrev start : tie.After-put-prg-pages → tie.Start
 start c = c .before .before .before .before
 
 abbrev prg : tie.After-put-chr-pages-arg → tie.After-put-prg-pages
 prg c = c .before .before .before .before
-
-abbrev chr : tie.After-put-arg → tie.After-put-chr-pages
-chr c = c .before .before .before
 
 put-prg-pages-requires : tie.Need-put-prg-pages-requires
 put-prg-pages-requires c κs = (search needs, prg-at _ (c .before .before .before .pre .1))
@@ -31,7 +28,8 @@ put-chr-pages-requires : tie.Need-put-chr-pages-requires
 put-chr-pages-requires c κs = (search needs, chr-at _ (start (prg c) .pre .1))
 
 layout-word-requires : tie.Need-layout-word-requires
-layout-word-requires c κs = memory-in _ (start (prg (chr c .before)) .pre .1) .ranged .sized .layout
+layout-word-requires c κs =
+    let chr = c .before .before .before in memory-in _ (start (prg (chr .before)) .pre .1) .ranged .sized .layout
 
 -- what the types say of the arrays
 long-prg-pages : (c : tie.Start) → length (c .args .m .«prg_pages») ≡ 64
@@ -43,8 +41,8 @@ long-chr-pages c = sym (length-map (c .args .m .«chr_pages») _) ∙ c .good .1
 returns : tie.Need-returns
 unfolding total
 returns c =
-    let last = c .before .before in let word = last .before in
-    let chrs = chr (word .before) in let prgs = prg (chrs .before) in let s = start prgs in
+    let last = c .before .before in let word = last .before in let asked = word .before in
+    let chrs = asked .before .before .before in let prgs = prg (chrs .before) in let s = start prgs in
     let m = s .args .m in
     let lp : length (m .«prg_pages») ≡ 64 = long-prg-pages s in
     let lc : length (m .«chr_pages») ≡ 16 = long-chr-pages s in

@@ -13,19 +13,15 @@ use borrow.Author.Needs.{needs}
 use Rattle.image_write.proofs.writing.put_phases.Statement.{statement}
 use Rattle.image_write.proofs.writing.put_phases.Tie as tie
 
--- before the phases are lent
-abbrev start : tie.After-phases → tie.Start
-start c = c .before .before .before
-
 put-run-requires : tie.Need-put-run-requires
 put-run-requires c κs =
-    let xs = start c .args .t2 in
+    let s = c .before .before .before in let xs = s .args .t2 in
     let l : length xs ≡ 8 = search needs in (
       byte-held phasesAt,
       (
         omega arith,
         fit-replicate (length xs) 24 xs refl
-            (λ i h. ltb-true (getD xs i 0) phaseLimit (every-at 8 (phaseTest xs) (start c .pre .1) i (omega arith))),
+            (λ i h. ltb-true (getD xs i 0) phaseLimit (every-at 8 (phaseTest xs) (s .pre .1) i (omega arith))),
         omega arith,
       ),
     )
@@ -33,8 +29,8 @@ put-run-requires c κs =
 returns : tie.Need-returns
 unfolding total
 returns c =
-    let put = c .before .before in
-    let xs = start (put .before) .args .t2 in
+    let put = c .before .before in let lent = put .before in
+    let xs = lent .before .before .before .args .t2 in
     let l : length xs ≡ 8 = search needs in
     wrote-to _ _ phasesAt prgPagesAt _ _ _ (omega arith) (rw l at (put .put-run .ensures))
 

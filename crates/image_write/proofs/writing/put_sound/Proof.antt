@@ -1,8 +1,10 @@
 -- `put_sound` meets its contract: its parts stand one behind the other.
-use mathlib.Core.Path.{_≡_, refl, sym, _∙_}
+use mathlib.Core.Path.{refl, sym, _∙_}
 use mathlib.Core.List.{[]}
-use lib.ListN.{length, length-map}
+use lib.ListN.{length-map}
 use Rattle.bits.specs.Fields.{total}
+use Rattle.sound.specs.Range.{Typed}
+use Rattle.sound.proofs.audio.Typed.{typed}
 use Rattle.image_write.specs.Image.{part, soundWidths, soundFields, levelNum}
 use Rattle.image_write.specs.Sections.{portAt, levelsAt, prgPagesAt}
 use Rattle.image_write.proofs.Parts.{wrote-to, wrote-fields, wrote-part, wrote-end, byte-held}
@@ -15,6 +17,10 @@ use Rattle.image_write.proofs.writing.put_sound.Tie as tie
 -- what the test of the sound says
 facts : (c : tie.Start) → SoundFacts (c .args .audio)
 facts c = sound-facts (c .args .audio) (c .pre .1)
+
+-- and what its types say
+types : (c : tie.Start) → Typed (c .args .audio)
+types c = typed _ _ (c .good .1 .0)
 
 -- the places after the port, the outputs and `out` were written, and before all
 abbrev start : tie.After-slice-known2 → tie.Start
@@ -44,16 +50,6 @@ put-out-requires c κs = (search needs, facts (begun (levels c .before)) .out)
 put-phases-requires : tie.Need-put-phases-requires
 put-phases-requires c κs = (search needs, facts (begun (levels (out c .before) .before)) .phases)
 
--- what the types say of the arrays
-long-ram : (c : tie.Start) → length (c .args .audio .ram) ≡ 128
-long-ram c = search needs
-
-long-channel-out : (c : tie.Start) → length (c .args .audio .«channel_out») ≡ 8
-long-channel-out c = search needs
-
-long-phase-ext : (c : tie.Start) → length (c .args .audio .«phase_ext») ≡ 8
-long-phase-ext c = search needs
-
 returns : tie.Need-returns
 unfolding total
 returns c =
@@ -62,14 +58,14 @@ returns c =
     let s = begun (levelled .before) in
     let a = s .args .audio in
     let f = soundFields a in
-    wrote-part _ _ _ _ _ _ (part soundWidths 0) (part f 0) _ _ (sym (long-ram s)) (ram .put-ram .ensures)
+    wrote-part _ _ _ _ _ _ (part soundWidths 0) (part f 0) _ _ (sym (types s .«ram-length»)) (ram .put-ram .ensures)
     (wrote-part _ _ _ _ _ _ (part soundWidths 1) (part f 1) _ _ refl
     (wrote-to _ _ portAt levelsAt _ _ _ (omega arith)
     (wrote-fields (part soundWidths 1) (part f 1) (word .port-word .ensures .0) (ported .put .ensures)))
     (wrote-part _ _ _ _ _ _ (part soundWidths 2) (part f 2) _ _
-    (sym (length-map (a .«channel_out») levelNum ∙ long-channel-out s)) (levelled .put-levels .ensures)
+    (sym (length-map (a .«channel_out») levelNum ∙ types s .«outputs-length»)) (levelled .put-levels .ensures)
     (wrote-part _ _ _ _ _ _ (part soundWidths 3) (part f 3) _ _ refl (outs .put-out .ensures)
-    (wrote-part _ _ _ _ _ _ (part soundWidths 4) (part f 4) [] [] (sym (long-phase-ext s)) (last .put-phases .ensures)
+    (wrote-part _ _ _ _ _ _ (part soundWidths 4) (part f 4) [] [] (sym (types s .«phases-length»)) (last .put-phases .ensures)
     (wrote-end _ _ (byte-held prgPagesAt))))))
 
 pub put-sound-spec : {M : Type 1} → statement M

@@ -3,6 +3,8 @@ use mathlib.Core.Path.{_≡_, refl, sym, _∙_}
 use lib.ListN.{length, length-map}
 use Rattle.bits.specs.Fields.{bit}
 use Rattle.bits.proofs.cursor.Laws.{finish}
+use Rattle.sound.specs.Range.{Typed}
+use Rattle.sound.proofs.audio.Typed.{typed}
 use Rattle.image_write.specs.Image.{imageBytes, widths, fields, imageOf}
 use Rattle.image_write.specs.Image.{chipWidths, chipFields, soundWidths, soundFields, memoryWidths, memoryFields, levelNum}
 use Rattle.image_write.proofs.Parts.{_then_, SameLengths, wrote-parts}
@@ -33,7 +35,7 @@ put-memory-requires : tie.Need-put-memory-requires
 put-memory-requires c κs =
     let s = start (chip (sound c .before)) in (search needs, state-facts (s .args .s) (s .pre .1) .memory)
 
--- what the types say of the arrays
+-- what the types say of the board's arrays and of the sound
 long-flags : (c : tie.Start) → length (c .args .s .chip .«nt_bank_enable») ≡ 12
 long-flags c = search needs
 
@@ -44,18 +46,8 @@ long-prg : (c : tie.Start) → length (c .args .s .chip .«prg_banks») ≡ 3
 long-prg c =
     sym (length-map (c .args .s .chip .«prg_banks») _) ∙ c .good .1 .0 .1 .1 .0 .1 .1 .1 .1 .1 .1 .1 .1 .1 .1 .1 .1 .0 .1 .0 .1
 
-long-ram : (c : tie.Start) → length (c .args .s .chip .audio .ram) ≡ 128
-long-ram c = search needs
-
-long-outputs : (c : tie.Start) → length (c .args .s .chip .audio .«channel_out») ≡ 8
-long-outputs c =
-    sym (length-map (c .args .s .chip .audio .«channel_out») _)
-    ∙ c .good .1 .0 .1 .1 .0 .1 .1 .1 .1 .1 .1 .0 .1 .1 .1 .1 .1 .1 .1 .1 .0 .1 .0 .1
-
-long-phases : (c : tie.Start) → length (c .args .s .chip .audio .«phase_ext») ≡ 8
-long-phases c =
-    sym (length-map (c .args .s .chip .audio .«phase_ext») _)
-    ∙ c .good .1 .0 .1 .1 .0 .1 .1 .1 .1 .1 .1 .0 .1 .1 .1 .1 .1 .1 .1 .1 .1 .1 .0 .1 .0 .1
+types : (c : tie.Start) → Typed (c .args .s .chip .audio)
+types c = typed _ _ (c .good .1 .0 .1 .1 .0 .1 .1 .1 .1 .1 .1 .0)
 
 returns : tie.Need-returns
 unfolding imageOf widths fields
@@ -67,8 +59,8 @@ returns c =
     refl then refl then sym (length-map (s .chip .«nt_bank_enable») bit ∙ long-flags begun) then sym (long-chr begun)
     then sym (long-prg begun) then tt in
     let sounds : SameLengths soundWidths (soundFields (s .chip .audio)) =
-    sym (long-ram begun) then refl then sym (length-map (s .chip .audio .«channel_out») levelNum ∙ long-outputs begun) then refl
-    then sym (long-phases begun) then tt in
+    sym (types begun .«ram-length») then refl then sym (length-map (s .chip .audio .«channel_out») levelNum ∙ types begun .«outputs-length») then refl
+    then sym (types begun .«phases-length») then tt in
     let all = wrote-parts _ _ _ _ _ _ chipWidths (chipFields (s .chip)) _ _ chips (first .put-chip .ensures)
     (wrote-parts _ _ _ _ _ _ soundWidths (soundFields (s .chip .audio)) memoryWidths (memoryFields (s .memory)) sounds
     (sounded .put-sound .ensures) (last .put-memory .ensures)) in
