@@ -87,12 +87,16 @@ infixr 4 _then_
 abbrev pub _then_ : {A B : Type 0} → A → B → A × B
 _then_ a b = (a, b)
 
+-- as many parts, and R of each two
+abbrev pub PartByPart : (List ℕ → List ℕ → Type 0) → List (List ℕ) → List (List ℕ) → Type 0
+PartByPart R [] [] = Unit
+PartByPart R [] (v ∷ vs) = ⊥
+PartByPart R (w ∷ ws) [] = ⊥
+PartByPart R (w ∷ ws) (v ∷ vs) = R w v × PartByPart R ws vs
+
 -- as many values as widths, part by part
 abbrev pub SameLengths : List (List ℕ) → List (List ℕ) → Type 0
-SameLengths [] [] = Unit
-SameLengths [] (v ∷ vs) = ⊥
-SameLengths (w ∷ ws) [] = ⊥
-SameLengths (w ∷ ws) (v ∷ vs) = (length w ≡ length v) × SameLengths ws vs
+SameLengths = PartByPart (λ w v. length w ≡ length v)
 
 pub joined-lengths : (ws vs : List (List ℕ)) → SameLengths ws vs → length (joined ws) ≡ length (joined vs)
 unfolding joined
