@@ -1,19 +1,21 @@
 -- Which images are accepted, by their board's words and the bits of `out`, and the state that they hold.
 use mathlib.Core.Path.{_≡_, refl, ap, ap₂, _∙_}
-use mathlib.Core.Bool.{Bool, true, false, _&&_}
+use mathlib.Core.Bool.{Bool, true, false, _&&_, and-false}
 use mathlib.Core.List.{List}
-use Prim.Native.Nat.{ℕ, _/_, _%_, _^_, _≤_, _<_}
+use Prim.Native.Nat.{ℕ, _-_, _/_, _%_, _^_, _≤_, _<_}
 use native.Mathlib.Omega.{arith}
 use borrow.Author.Tests.{eq-eqb, ne-eqb, le-leb, lt-leb}
 use lib.Dec.{leb}
 use lib.ListN.{length, take, drop, getD}
 use Rattle.bits.specs.Fields.{total, unpack}
 use Rattle.bits.specs.Words.{wordOf}
+use Rattle.limits.specs.Limits.{outMost}
 use Rattle.board_state.specs.declared.State.{State}
 use Rattle.board_state.specs.State.{inRange}
 use Rattle.call_refusals.specs.Refusals.{firstOf}
 use Rattle.board_state.specs.None.{noState}
 use Rattle.image_write.specs.Image.{imageBytes, part, joined, chipWidths}
+use Rattle.image_write.specs.Sections.{chipAt, ramAt, outAt, phasesAt}
 use Rattle.image_write.proofs.Ranges.{state-facts, sound-facts}
 use Rattle.image_read.specs.declared.reading.Head.{Head}
 use Rattle.image_read.specs.Reading.{stateFrom, stateOf, fieldsOk, fieldsOf, readImage}
@@ -25,28 +27,28 @@ use Rattle.image_read.proofs.Sections.{image-parts}
 
 -- ---- the three answers
 
-pub refused-length : (img : List ℕ) → (length img ≡ 307 → ⊥) → readImage img ≡ record { refusal = 1; state = noState }
+pub refused-length : (img : List ℕ) → (length img ≡ imageBytes → ⊥) → readImage img ≡ record { refusal = 1; state = noState }
 unfolding readImage firstOf
-refused-length img h = rw (ne-eqb (length img) 307 h)
+refused-length img h = rw (ne-eqb (length img) imageBytes h)
 
-pub refused-fields : (img : List ℕ) → length img ≡ 307 → fieldsOk (fieldsOf img) ≡ false → readImage img
+pub refused-fields : (img : List ℕ) → length img ≡ imageBytes → fieldsOk (fieldsOf img) ≡ false → readImage img
     ≡ record { refusal = 2; state = noState }
 unfolding readImage firstOf
-refused-fields img l e = rw (eq-eqb (length img) 307 l, e)
+refused-fields img l e = rw (eq-eqb (length img) imageBytes l, e)
 
-pub accepted : (img : List ℕ) → length img ≡ 307 → fieldsOk (fieldsOf img) ≡ true → readImage img
+pub accepted : (img : List ℕ) → length img ≡ imageBytes → fieldsOk (fieldsOf img) ≡ true → readImage img
     ≡ record { refusal = 0; state = stateOf (fieldsOf img) }
 unfolding readImage firstOf
-accepted img l e = rw (eq-eqb (length img) 307 l, e)
+accepted img l e = rw (eq-eqb (length img) imageBytes l, e)
 
 -- ---- the state of an image
 
--- an image of 307 bytes, its board's words and the bits of its `out`
+-- an image of `imageBytes` bytes, its board's words and the bits of its `out`
 pub record Opened (img : List ℕ) (h : Head) (bits : ℕ) : Type 0 where
   pub long : length img ≡ imageBytes
   pub bytes : Bytes img
-  pub head : fieldsAt (joined chipWidths) img 0 23 ≡ joined (headParts h)
-  pub out : bits ≡ wordOf (take 4 (drop 165 img))
+  pub head : fieldsAt (joined chipWidths) img chipAt (ramAt - chipAt) ≡ joined (headParts h)
+  pub out : bits ≡ wordOf (take (phasesAt - outAt) (drop outAt img))
   pub small : bits < 2 ^ 32
 
 module _ (img : List ℕ) (h : Head) (bits : ℕ) (o : Opened img h bits) where
@@ -57,23 +59,19 @@ module _ (img : List ℕ) (h : Head) (bits : ℕ) (o : Opened img h bits) where
   unfolding stateOf stateFrom soundAt memoryAt
   state-is = rw (image-parts img (o .long) (o .bytes) h (o .head), out-at img bits (o .out) (o .small))
 
-  ok-is : fieldsOk (fieldsOf img) ≡ leb (h .kind / 2 % 8) 4 && inRange held
+  ok-is : fieldsOk (fieldsOf img) ≡ leb (h .detection / 2 % 8) 4 && inRange held
   unfolding fieldsOk unpack total
   ok-is = ap₂ (λ (p : List (List ℕ)) (s : State). leb (getD (part p 1) 1 0) 4 && inRange s)
       (image-parts img (o .long) (o .bytes) h (o .head)) state-is
 
-  pub refused-mirroring : 4 < h .kind / 2 % 8 → readImage img ≡ record { refusal = 2; state = noState }
-  refused-mirroring l = refused-fields img (o .long) (ok-is ∙ rw (lt-leb (h .kind / 2 % 8) 4 l))
+  pub refused-mirroring : 4 < h .detection / 2 % 8 → readImage img ≡ record { refusal = 2; state = noState }
+  refused-mirroring l = refused-fields img (o .long) (ok-is ∙ rw (lt-leb (h .detection / 2 % 8) 4 l))
 
   pub refused-range : inRange held ≡ false → readImage img ≡ record { refusal = 2; state = noState }
   refused-range e = refused-fields img (o .long)
-      (ok-is ∙ ap (λ (t : Bool). leb (h .kind / 2 % 8) 4 && t) e ∙ and-no (leb (h .kind / 2 % 8) 4))
-    where
-      and-no : (b : Bool) → b && false ≡ false
-      and-no true = refl
-      and-no false = refl
+      (ok-is ∙ ap (λ (t : Bool). leb (h .detection / 2 % 8) 4 && t) e ∙ and-false (leb (h .detection / 2 % 8) 4))
 
-  pub refused-out : 0x456F1000 < bits → readImage img ≡ record { refusal = 2; state = noState }
+  pub refused-out : outMost < bits → readImage img ≡ record { refusal = 2; state = noState }
   unfolding soundAt
   refused-out l = refused-range (go (inRange held) refl)
     where
@@ -82,6 +80,6 @@ module _ (img : List ℕ) (h : Head) (bits : ℕ) (o : Opened img h bits) where
           (sound-facts (held .chip .audio) (state-facts held e .audio) .out) in omega arith)
       go false e = e
 
-  pub accepted-state : h .kind / 2 % 8 ≤ 4 → inRange held ≡ true → readImage img ≡ record { refusal = 0; state = held }
-  accepted-state m e = accepted img (o .long) (ok-is ∙ rw (le-leb (h .kind / 2 % 8) 4 m, e))
+  pub accepted-state : h .detection / 2 % 8 ≤ 4 → inRange held ≡ true → readImage img ≡ record { refusal = 0; state = held }
+  accepted-state m e = accepted img (o .long) (ok-is ∙ rw (le-leb (h .detection / 2 % 8) 4 m, e))
       ∙ ap (λ (s : State). record { refusal = 0; state = s }) state-is

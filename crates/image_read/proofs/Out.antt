@@ -7,19 +7,20 @@ use borrow.Author.Tests.{le-ltb}
 use lib.Dec.{T}
 use lib.Ieee.{binary32, toBits, ofBits, nanBits}
 use lib.Ieee.Bits.{toBits-ofBits, nanBits-above}
+use Rattle.limits.specs.Limits.{outMost}
 use Rattle.sound.specs.Range.{outOk}
 use Rattle.image_write.proofs.Levels.{out-facts}
 
-no-nan : (n : ℕ) → n ≤ 0x456F1000 → nanBits binary32 n ≡ false
+no-nan : (n : ℕ) → n ≤ outMost → nanBits binary32 n ≡ false
 no-nan n h = nanBits-above binary32 n ∙ le-ltb 0x7F800000 (n % 0x80000000) (omega arith)
 
--- bits of at most those of 3825 are a number's
-pub from-bits-ok : (n : ℕ) → n ≤ 0x456F1000 → T (not (nanBits binary32 n))
+-- bits of at most `outMost` are a number's
+pub from-bits-ok : (n : ℕ) → n ≤ outMost → T (not (nanBits binary32 n))
 from-bits-ok n h = rw (no-nan n h) tt
 
--- bits of a float in range come back, and are at most those of 3825
+-- bits of a float in range come back, and are at most `outMost`
 pub out-back : (n : ℕ) → n < 2 ^ 32 → outOk (ofBits binary32 n) ≡ true → toBits binary32 (ofBits binary32 n) ≡ n
 out-back n h e = toBits-ofBits binary32 n h (out-facts (ofBits binary32 n) e .number)
 
-pub out-most : (n : ℕ) → n < 2 ^ 32 → outOk (ofBits binary32 n) ≡ true → n ≤ 0x456F1000
+pub out-most : (n : ℕ) → n < 2 ^ 32 → outOk (ofBits binary32 n) ≡ true → n ≤ outMost
 out-most n h e = omega (arith, out-back n h e, out-facts (ofBits binary32 n) e .bits)

@@ -7,15 +7,12 @@ use lib.ListN.{length, take, drop, getD, take-append-drop}
 use Rattle.bits.specs.Fields.{Fit}
 use Rattle.bits.proofs.Fields.{fit-append, fit-length}
 use Rattle.image_write.specs.Image.{joined}
-use Rattle.image_write.proofs.Parts.{SameLengths}
+use Rattle.image_write.proofs.Parts.{PartByPart, SameLengths}
 use Rattle.image_read.specs.Reading.{cutInto}
 
 -- the values of each part fit its widths
 abbrev pub FitParts : List (List ℕ) → List (List ℕ) → Type 0
-FitParts [] [] = Unit
-FitParts [] (v ∷ vs) = ⊥
-FitParts (w ∷ ws) [] = ⊥
-FitParts (w ∷ ws) (v ∷ vs) = Fit w v × FitParts ws vs
+FitParts = PartByPart Fit
 
 pub fit-joined : (ws vs : List (List ℕ)) → FitParts ws vs → Fit (joined ws) (joined vs)
 unfolding joined
@@ -32,27 +29,22 @@ same-lengths (w ∷ ws) (v ∷ vs) f = (fit-length w v (f .0), same-lengths ws v
 
 -- ---- fields cut into parts
 
-fit-take : (ws us vs : List ℕ) → Fit (ws ++ us) vs → Fit ws (take (length ws) vs)
-fit-take [] us vs f = tt
-fit-take (w ∷ ws) us [] f = absurd f
-fit-take (w ∷ ws) us (v ∷ vs) f = (f .0, fit-take ws us vs (f .1))
-
-fit-drop : (ws us vs : List ℕ) → Fit (ws ++ us) vs → Fit us (drop (length ws) vs)
-fit-drop [] us vs f = f
-fit-drop (w ∷ ws) us [] f = absurd f
-fit-drop (w ∷ ws) us (v ∷ vs) f = fit-drop ws us vs (f .1)
+fit-split : (ws us vs : List ℕ) → Fit (ws ++ us) vs → Fit ws (take (length ws) vs) × Fit us (drop (length ws) vs)
+fit-split [] us vs f = (tt, f)
+fit-split (w ∷ ws) us [] f = absurd f
+fit-split (w ∷ ws) us (v ∷ vs) f = let h = fit-split ws us vs (f .1) in ((f .0, h .0), h .1)
 
 pub fit-cut : (ws : List (List ℕ)) (vs : List ℕ) → Fit (joined ws) vs → FitParts ws (cutInto ws vs)
 unfolding joined cutInto
 fit-cut [] vs f = tt
-fit-cut (w ∷ ws) vs f = (fit-take w (joined ws) vs f, fit-cut ws (drop (length w) vs) (fit-drop w (joined ws) vs f))
+fit-cut (w ∷ ws) vs f = let h = fit-split w (joined ws) vs f in (h .0, fit-cut ws (drop (length w) vs) (h .1))
 
 pub joined-cut : (ws : List (List ℕ)) (vs : List ℕ) → Fit (joined ws) vs → joined (cutInto ws vs) ≡ vs
 unfolding joined cutInto
 joined-cut [] [] f = refl
 joined-cut [] (v ∷ vs) f = absurd f
 joined-cut (w ∷ ws) vs f =
-    ap (λ (l : List ℕ). take (length w) vs ++ l) (joined-cut ws (drop (length w) vs) (fit-drop w (joined ws) vs f))
+    ap (λ (l : List ℕ). take (length w) vs ++ l) (joined-cut ws (drop (length w) vs) (fit-split w (joined ws) vs f .1))
     ∙ take-append-drop (length w) vs
 
 -- ---- a value by its index

@@ -1,5 +1,5 @@
--- The image's promises: "Reading what a state in range was written to gives that state, and writing what an accepted image was read to gives the same 307
--- bytes", and an image is accepted exactly where it has 307 bytes and its fields are in range.
+-- The image's promises: "Reading what a state in range was written to gives that state, and writing what an accepted image was read to
+-- gives the same 307 bytes", and an image is accepted exactly where it has `imageBytes` bytes and its fields are in range.
 use mathlib.Core.Path.{_≡_, refl, sym, ap, ap₂, _∙_}
 use mathlib.Core.Bool.{Bool, true, false, _&&_}
 use mathlib.Core.List.{List}
@@ -38,7 +38,7 @@ refusal-is img = go (eqb (firstOf (readChecks img)) 0) refl
     go true e = rw e (sym (eqb-true (firstOf (readChecks img)) 0 e))
     go false e = rw e
 
--- an accepted image has 307 bytes and fields in range
+-- an accepted image has `imageBytes` bytes and fields in range
 pub accepted-in-range : (img : List ℕ) → readImage img .refusal ≡ 0 → (length img ≡ imageBytes) × (fieldsOk (fieldsOf img) ≡ true)
 accepted-in-range img e =
     let h = accepted-none (readChecks img) (omega arith, (omega arith, tt)) (sym (refusal-is img) ∙ e) in
@@ -57,7 +57,7 @@ module _ (s : State) (t : Typed s) (e : inRange s ≡ true) where
 
   fields-are : fieldsOf (imageOf s) ≡ fields s
   unfolding fieldsOf imageOf
-  fields-are = fields-back widths 307 total-widths (fields s) fits
+  fields-are = fields-back widths imageBytes total-widths (fields s) fits
 
   cut : cutInto partWidths (fields s) ≡ partFields s
   unfolding fields
@@ -76,7 +76,7 @@ module _ (s : State) (t : Typed s) (e : inRange s ≡ true) where
 
   long : length (imageOf s) ≡ imageBytes
   unfolding imageOf
-  long = length-bytes 307 (pack widths (fields s))
+  long = length-bytes imageBytes (pack widths (fields s))
 
   -- reading what a state in range was written to gives that state
   pub read-written : readImage (imageOf s) ≡ record { refusal = 0; state = s }
@@ -90,11 +90,11 @@ unfolding imageOf fieldsOk fieldsOf
 again img b l e =
     let vs = fieldsOf img in
     let m = leb (getD (part (cutInto partWidths vs) 1) 1 0) 4 in
-    ap (λ (x : List ℕ). bytesOf 307 (pack widths x))
+    ap (λ (x : List ℕ). bytesOf imageBytes (pack widths x))
     (fields-num vs (fit-unpack widths (wordOf img)) (and-right m _ e) (leb-true _ 4 (and-left m _ e)))
-    ∙ bytes-back widths 307 total-widths img l b
+    ∙ bytes-back widths imageBytes total-widths img l b
 
--- writing what an accepted image was read to gives the same 307 bytes
+-- writing what an accepted image was read to gives the same bytes
 pub written-read : (img : List ℕ) → Bytes img → readImage img .refusal ≡ 0 → imageOf (readImage img .state) ≡ img
 written-read img b e =
     let h = accepted-in-range img e in

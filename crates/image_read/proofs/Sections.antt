@@ -1,7 +1,8 @@
--- Laws of the parts of an image: what a reader finds in some bytes is the fields of those bytes, and all parts together are the image's fields.
+-- Laws of the parts of an image: what a reader finds in some bytes is the fields of those bytes, and all parts together are the
+-- image's fields.
 use mathlib.Core.Path.{_≡_, refl, sym, ap, ap₂, _∙_, subst}
 use mathlib.Core.List.{List, [], _∷_, _++_}
-use Prim.Native.Nat.{ℕ, _+_, _*_, _^_, _≤_, _<_}
+use Prim.Native.Nat.{ℕ, _+_, _-_, _*_, _^_, _≤_, _<_}
 use native.Mathlib.Nat.{div-one, mod-one}
 use native.Mathlib.Omega.{arith}
 use lib.ListN.{length, take, drop, length-drop}
@@ -14,6 +15,7 @@ use Rattle.bits.proofs.Fields.{pack-lt, pack-unpack, unpack-pack, fit-unpack, l
 use Rattle.bits.proofs.words.Laws.{total-eights, word-append}
 use Rattle.bits.proofs.cursor.Laws.{read-append, read-none, finish-read, bytes-read}
 use Rattle.image_write.specs.Image.{imageBytes, part, joined, chipWidths, soundWidths, memoryWidths, partWidths, widths, byteAt}
+use Rattle.image_write.specs.Sections.{chipAt, ramAt, portAt, levelsAt, outAt, phasesAt, prgPagesAt, chrPagesAt, layoutAt}
 use Rattle.image_write.proofs.Parts.{_then_, SameLengths, joined-append}
 use Rattle.image_write.proofs.Whole.{total-widths}
 use Rattle.image_read.specs.declared.reading.Head.{Head}
@@ -90,23 +92,25 @@ cut-joined (w ∷ ws) (v ∷ vs) h =
 
 abbrev pub soundParts : List ℕ → List (List ℕ)
 soundParts img =
-    fieldsAt (part soundWidths 0) img 23 128
-    ∷ fieldsAt (part soundWidths 1) img 151 2
-    ∷ fieldsAt (part soundWidths 2) img 153 12
-    ∷ fieldsAt (part soundWidths 3) img 165 4
-    ∷ fieldsAt (part soundWidths 4) img 169 24
+    fieldsAt (part soundWidths 0) img ramAt (portAt - ramAt)
+    ∷ fieldsAt (part soundWidths 1) img portAt (levelsAt - portAt)
+    ∷ fieldsAt (part soundWidths 2) img levelsAt (outAt - levelsAt)
+    ∷ fieldsAt (part soundWidths 3) img outAt (phasesAt - outAt)
+    ∷ fieldsAt (part soundWidths 4) img phasesAt (prgPagesAt - phasesAt)
     ∷ []
 
 abbrev pub memoryParts : List ℕ → List (List ℕ)
 memoryParts img =
-    fieldsAt (part memoryWidths 0) img 193 88 ∷ fieldsAt (part memoryWidths 1) img 281 22 ∷ fieldsAt
-    (part memoryWidths 2) img 303 4 ∷ []
+    fieldsAt (part memoryWidths 0) img prgPagesAt (chrPagesAt - prgPagesAt)
+    ∷ fieldsAt (part memoryWidths 1) img chrPagesAt (layoutAt - chrPagesAt)
+    ∷ fieldsAt (part memoryWidths 2) img layoutAt (imageBytes - layoutAt)
+    ∷ []
 
 long-at : (ws img : List ℕ) (a k : ℕ) → length ws ≡ length (fieldsAt ws img a k)
 unfolding fieldsAt
 long-at ws img a k = sym (length-unpack ws (wordOf (take k (drop a img))))
 
-pub chip-bits : total (joined chipWidths) ≡ 23 * 8
+pub chip-bits : total (joined chipWidths) ≡ (ramAt - chipAt) * 8
 unfolding total joined
 chip-bits = refl
 
@@ -114,57 +118,43 @@ module _ (img : List ℕ) (long : length img ≡ imageBytes) (bs : Bytes img) wh
   abbrev rest : List (List ℕ)
   rest = soundParts img ++ memoryParts img
 
-  prg-bits : total (part memoryWidths 0) ≡ 88 * 8
-  unfolding total times
-  prg-bits = refl
+  -- the section from a up to b, then those behind it
+  section-then : (a b : ℕ) (ws : List ℕ) (wss vss : List (List ℕ)) → total ws ≡ (b - a) * 8 → a ≤ b → b ≤ imageBytes
+      → Read img (byteAt b) (byteAt imageBytes) (joined wss) (joined vss)
+      → Read img (byteAt a) (byteAt imageBytes) (joined (ws ∷ wss)) (joined (fieldsAt ws img a (b - a) ∷ vss))
+  section-then a b ws wss vss t l h r =
+      let e : a + (b - a) ≡ b = omega arith in
+      read-part img (byteAt a) (byteAt b) (byteAt imageBytes) ws (fieldsAt ws img a (b - a)) wss vss
+      (rw e at (section-read img a (b - a) (omega (arith, long)) bs ws t)) r
 
-  chr-bits : total (part memoryWidths 1) ≡ 22 * 8
+  read-rest : Read img (byteAt ramAt) (byteAt imageBytes) (joined (soundWidths ++ memoryWidths)) (joined rest)
   unfolding total times
-  chr-bits = refl
-
-  read-rest : Read img (byteAt 23) (byteAt 307) (joined (soundWidths ++ memoryWidths)) (joined rest)
-  unfolding total
   read-rest =
-      read-part img (byteAt 23) (byteAt 151) (byteAt 307) (part soundWidths 0) (part rest 0) _ _
-      (section-read img 23 128 (omega arith) bs (part soundWidths 0) refl)
-      (read-part img (byteAt 151) (byteAt 153) (byteAt 307) (part soundWidths 1) (part rest 1) _ _
-      (section-read img 151 2 (omega arith) bs (part soundWidths 1) refl)
-      (read-part img (byteAt 153) (byteAt 165) (byteAt 307) (part soundWidths 2) (part rest 2) _ _
-      (section-read img 153 12 (omega arith) bs (part soundWidths 2) refl)
-      (read-part img (byteAt 165) (byteAt 169) (byteAt 307) (part soundWidths 3) (part rest 3) _ _
-      (section-read img 165 4 (omega arith) bs (part soundWidths 3) refl)
-      (read-part img (byteAt 169) (byteAt 193) (byteAt 307) (part soundWidths 4) (part rest 4) _ _
-      (section-read img 169 24 (omega arith) bs (part soundWidths 4) refl)
-      (read-part img (byteAt 193) (byteAt 281) (byteAt 307) (part memoryWidths 0) (part rest 5) _ _
-      (section-read img 193 88 (omega arith) bs (part memoryWidths 0) prg-bits)
-      (read-part img (byteAt 281) (byteAt 303) (byteAt 307) (part memoryWidths 1) (part rest 6) _ _
-      (section-read img 281 22 (omega arith) bs (part memoryWidths 1) chr-bits)
-      (read-part img (byteAt 303) (byteAt 307) (byteAt 307) (part memoryWidths 2) (part rest 7) [] []
-      (section-read img 303 4 (omega arith) bs (part memoryWidths 2) refl)
-      (read-end img (byteAt 307) (byte-behind img 307)))))))))
+      section-then ramAt portAt _ _ _ refl (omega arith) (omega arith)
+      (section-then portAt levelsAt _ _ _ refl (omega arith) (omega arith)
+      (section-then levelsAt outAt _ _ _ refl (omega arith) (omega arith)
+      (section-then outAt phasesAt _ _ _ refl (omega arith) (omega arith)
+      (section-then phasesAt prgPagesAt _ _ _ refl (omega arith) (omega arith)
+      (section-then prgPagesAt chrPagesAt _ _ _ refl (omega arith) (omega arith)
+      (section-then chrPagesAt layoutAt _ _ _ refl (omega arith) (omega arith)
+      (section-then layoutAt imageBytes _ [] [] refl (omega arith) (omega arith)
+      (read-end img (byteAt imageBytes) (byte-behind img imageBytes)))))))))
 
   same-rest : SameLengths (soundWidths ++ memoryWidths) rest
   same-rest =
-      long-at (part soundWidths 0) img 23 128
-      then long-at (part soundWidths 1) img 151 2
-      then long-at (part soundWidths 2) img 153 12
-      then long-at (part soundWidths 3) img 165 4
-      then long-at (part soundWidths 4) img 169 24
-      then long-at (part memoryWidths 0) img 193 88
-      then long-at (part memoryWidths 1) img 281 22
-      then long-at (part memoryWidths 2) img 303 4
-      then tt
+      long-at _ _ _ _ then long-at _ _ _ _ then long-at _ _ _ _ then long-at _ _ _ _ then long-at _ _ _ _
+      then long-at _ _ _ _ then long-at _ _ _ _ then long-at _ _ _ _ then tt
 
   -- the image's fields in parts, given the board's
-  module _ (h : Head) (head : fieldsAt (joined chipWidths) img 0 23 ≡ joined (headParts h)) where
+  module _ (h : Head) (head : fieldsAt (joined chipWidths) img chipAt (ramAt - chipAt) ≡ joined (headParts h)) where
     fields-are : fieldsOf img ≡ joined (headParts h ++ rest)
     unfolding fieldsOf widths
     fields-are =
-        finish-read img (byteAt 307) (joined partWidths) (joined (headParts h ++ rest))
+        finish-read img (byteAt imageBytes) (joined partWidths) (joined (headParts h ++ rest))
         (rw (joined-append chipWidths (soundWidths ++ memoryWidths), joined-append (headParts h) rest)
-        (read-append img (byteAt 0) (byteAt 23) (byteAt 307) (joined chipWidths) (joined (headParts h))
+        (read-append img (byteAt chipAt) (byteAt ramAt) (byteAt imageBytes) (joined chipWidths) (joined (headParts h))
         (joined (soundWidths ++ memoryWidths)) (joined rest)
-        (rw head at (section-read img 0 23 (omega arith) bs (joined chipWidths) chip-bits)) read-rest))
+        (rw head at (section-read img chipAt (ramAt - chipAt) (omega arith) bs (joined chipWidths) chip-bits)) read-rest))
         (rw long total-widths)
 
     same-parts : SameLengths partWidths (headParts h ++ rest)

@@ -9,7 +9,7 @@ use borrow.Author.Tests.{ltb-true}
 use lib.Dec.{eqb}
 use lib.Ieee.{nan, binary32}
 use lib.Ieee.Bits.{ofBits-toBits}
-use lib.ListN.{length, getD, replicate}
+use lib.ListN.{length, getD, replicate, length-map}
 use Rattle.bits.specs.Fields.{Fit, bit, times, each}
 use Rattle.bits.proofs.Fields.{fit-length, fit-below, bit-lt}
 use Rattle.bits.proofs.Lists.{listed-is, getD-map}
@@ -24,6 +24,7 @@ use Rattle.board_state.specs.declared.State.{State}
 use Rattle.sound.specs.Range.{outputTest, phaseTest, levelOk}
 use Rattle.board_state.specs.State.{inRange}
 use Rattle.limits.specs.Every.{every}
+use Rattle.limits.specs.Limits.{phaseLimit, usedMost}
 use Rattle.limits.proofs.Every.{every-at}
 use Rattle.memory.proofs.Laws.Range.{memory-in}
 use Rattle.image_write.specs.Image.{part, joined, partWidths, partFields, levelNum, pageWidths, pageFields, layoutWidths, widths, fields}
@@ -31,13 +32,14 @@ use Rattle.image_write.specs.Pages.{PagesFit}
 use Rattle.image_write.proofs.Levels.{level-facts, out-facts}
 use Rattle.image_write.proofs.Parts.{_then_, fit-replicate}
 use Rattle.image_write.proofs.Ranges.{state-facts, sound-facts, bank-at, prg-at, chr-at}
-use Rattle.image_read.specs.Reading.{yes, cutInto, stateFrom, stateOf}
+use Rattle.image_read.specs.Reading.{isSet, cutInto, stateFrom, stateOf}
 use Rattle.image_read.specs.Typed.{Typed}
 use Rattle.image_read.proofs.Out.{out-back}
 use Rattle.image_read.proofs.Parts.{FitParts, fit-cut, joined-cut, fit-get}
-use Rattle.image_read.proofs.Values.{bit-back, yes-back, board-back, board-num, mirroring-back, mirroring-most, mirroring-num, level-back, level-num, map-back, map-num, pages-back, pages-num}
+use Rattle.image_read.proofs.Values.{bit-back, is-set-back, board-back, board-num, mirroring-back, mirroring-most, mirroring-num}
+use Rattle.image_read.proofs.Values.{level-back, level-num, map-back, pages-back, pages-num}
 
-used-back : (u : ℕ) (b : ℕ) → (u ≡ 0) ⊎ ((u ≡ 128) × (1 ≤ b)) → 128 * bit (eqb u 128) ≡ u
+used-back : (u : ℕ) (b : ℕ) → (u ≡ 0) ⊎ ((u ≡ usedMost) × (1 ≤ b)) → usedMost * bit (eqb u usedMost) ≡ u
 used-back u b (inl e) = rw e
 used-back u b (inr h) = rw (h .0)
 
@@ -54,7 +56,7 @@ module _ (s : State) (t : Typed s) (e : inRange s ≡ true) where
       let g = sound-facts a (f .audio) in
       let r = memory-in m (f .memory) in
       let lo = t .sound .typed .«outputs-length» in
-      let flags = map-back bit yes false (n .«nt_bank_enable») (λ i l. bit-back (getD (n .«nt_bank_enable») i false)) in
+      let flags = map-back bit isSet false (n .«nt_bank_enable») (λ i l. bit-back (getD (n .«nt_bank_enable») i false)) in
       let outs = map-back levelNum whole nan (a .«channel_out»)
       (λ i l. level-back (getD (a .«channel_out») i nan) (t .sound .«outputs-fit» i)
       (every-at 8 (outputTest (a .«channel_out»)) (g .outputs) i (omega (arith, lo)))) in
@@ -70,11 +72,8 @@ module _ (s : State) (t : Typed s) (e : inRange s ≡ true) where
 
 fit-map : {A : Type 0} (f : A → ℕ) (d : A) (n w : ℕ) (xs : List A) → length xs ≡ n
     → ((i : ℕ) → i < n → f (getD xs i d) < 2 ^ w) → Fit (replicate n w) (map f xs)
-fit-map f d zero w [] e h = tt
-fit-map f d zero w (x ∷ xs) e h = absurd (let z : ⊥ = omega arith in z)
-fit-map f d (suc n) w [] e h = absurd (let z : ⊥ = omega arith in z)
-fit-map f d (suc n) w (x ∷ xs) e h =
-    (h 0 (omega arith), fit-map f d n w xs (omega arith) (λ i l. h (suc i) (omega arith)))
+fit-map f d n w xs e h =
+    fit-replicate n w (map f xs) (length-map xs f ∙ e) (λ i l. rw (getD-map f xs i d 0 (omega (arith, e))) (h i l))
 
 fit-pages : (n : ℕ) (xs : List Page) → length xs ≡ n → PagesFit n xs → Fit (times n pageWidths) (each pageFields xs)
 unfolding times each
@@ -110,7 +109,7 @@ module _ (s : State) (t : Typed s) (e : inRange s ≡ true) where
       let levels = fit-map levelNum nan 8 12 outs (y .«outputs-length»)
       (λ i h. omega (arith, level-facts (getD outs i nan) (every-at 8 (outputTest outs) (g .outputs) i h) .small)) in
       let phases = fit-replicate 8 24 (a .«phase_ext») (y .«phases-length»)
-      (λ i h. ltb-true (getD (a .«phase_ext») i 0) 16777216 (every-at 8 (phaseTest (a .«phase_ext»)) (g .phases) i h)) in
+      (λ i h. ltb-true (getD (a .«phase_ext») i 0) phaseLimit (every-at 8 (phaseTest (a .«phase_ext»)) (g .phases) i h)) in
       let prgs = fit-pages 64 (m .«prg_pages») (t .memory .prg) (prg-at m (f .memory)) in
       let chrs = fit-pages 16 (m .«chr_pages») (t .memory .chr) (chr-at m (f .memory)) in
       (c .counter then bit-lt (n .regs .«irq_pending») then bit-lt (n .regs .«nt_select_lo») then bit-lt (n .regs .«nt_select_hi»)
@@ -122,21 +121,22 @@ module _ (s : State) (t : Typed s) (e : inRange s ≡ true) where
       then omega (arith, g .channel) then tt)
       then levels then (omega (arith, out-facts (a .out) (g .out) .bits) then tt) then phases then prgs then chrs
       then (omega (arith, l .prgRom) then omega (arith, l .prgRam) then omega (arith, l .battery) then omega (arith, l .chr)
-      then bit-lt (m .layout .«chr_writable») then omega (arith, l .ciram) then bit-lt (eqb (m .«battery_ext_len») 128) then tt)
+      then bit-lt (m .layout .«chr_writable») then omega (arith, l .ciram) then bit-lt (eqb (m .«battery_ext_len») usedMost) then tt)
       then tt
 
 -- ---- fields that are in range come back from their state
 
 -- a yes/no among fields
-yes-at : (ws p : List ℕ) → Fit ws p → (i : ℕ) → i < length ws → getD ws i 0 ≡ 1 → bit (yes (getD p i 0)) ≡ getD p i 0
-yes-at ws p f i h e = yes-back (getD p i 0) (rw e at (fit-get ws p f i h))
+is-set-at : (ws p : List ℕ) → Fit ws p → (i : ℕ) → i < length ws → getD ws i 0 ≡ 1 → bit (isSet (getD p i 0)) ≡ getD p i 0
+is-set-at ws p f i h e = is-set-back (getD p i 0) (rw e at (fit-get ws p f i h))
 
-used-num : (v : ℕ) → v < 2 → bit (eqb (128 * v) 128) ≡ v
+used-num : (v : ℕ) → v < 2 → bit (eqb (usedMost * v) usedMost) ≡ v
 used-num zero h = refl
 used-num (suc zero) h = refl
 used-num (suc (suc v)) h = absurd (let z : ⊥ = omega arith in z)
 
-module _ (vs : List ℕ) (f : Fit widths vs) (ok : inRange (stateOf vs) ≡ true) (mirroring : getD (part (cutInto partWidths vs) 1) 1 0 ≤ 4) where
+module _ (vs : List ℕ) (f : Fit widths vs) (ok : inRange (stateOf vs) ≡ true)
+    (mirroring : getD (part (cutInto partWidths vs) 1) 1 0 ≤ 4) where
   pub fields-num : fields (stateOf vs) ≡ vs
   unfolding stateOf stateFrom cutInto fields widths
   fields-num =
@@ -147,27 +147,27 @@ module _ (vs : List ℕ) (f : Fit widths vs) (ok : inRange (stateOf vs) ≡ true
       let p0 = part ps 0 in let w0 = part partWidths 0 in let f0 = fp .0 in
       let regs : part (partFields s) 0 ≡ p0 =
       rw (
-        yes-at w0 p0 f0 1 (omega arith) refl,
-        yes-at w0 p0 f0 2 (omega arith) refl,
-        yes-at w0 p0 f0 3 (omega arith) refl,
+        is-set-at w0 p0 f0 1 (omega arith) refl,
+        is-set-at w0 p0 f0 2 (omega arith) refl,
+        is-set-at w0 p0 f0 3 (omega arith) refl,
         board-num (getD p0 5 0) (fit-get w0 p0 f0 5 (omega arith)),
       ) (listed-is 0 8 p0 (sym (fit-length w0 p0 f0))) in
       let p1 = part ps 1 in let w1 = part partWidths 1 in let f1 = fp .1 .0 in
-      let kind : part (partFields s) 1 ≡ p1 =
+      let detection : part (partFields s) 1 ≡ p1 =
       rw (
-        yes-at w1 p1 f1 0 (omega arith) refl,
+        is-set-at w1 p1 f1 0 (omega arith) refl,
         mirroring-num (getD p1 1 0) mirroring,
-        yes-at w1 p1 f1 2 (omega arith) refl,
+        is-set-at w1 p1 f1 2 (omega arith) refl,
       ) (listed-is 0 3 p1 (sym (fit-length w1 p1 f1))) in
       let p2 = part ps 2 in let f2 = fp .1 .1 .0 in
-      let flags = map-num bit yes p2 (λ i h. yes-back (getD p2 i 0) (fit-below 12 1 p2 f2 i)) in
+      let flags = map-back isSet bit 0 p2 (λ i h. is-set-back (getD p2 i 0) (fit-below 12 1 p2 f2 i)) in
       let f6-on = fp .1 .1 .1 .1 .1 .1 in
       let p6 = part ps 6 in let w6 = part partWidths 6 in let f6 = f6-on .0 in
       let port : part (partFields s) 6 ≡ p6 =
-      rw (yes-at w6 p6 f6 1 (omega arith) refl, yes-at w6 p6 f6 2 (omega arith) refl)
+      rw (is-set-at w6 p6 f6 1 (omega arith) refl, is-set-at w6 p6 f6 2 (omega arith) refl)
       (listed-is 0 5 p6 (sym (fit-length w6 p6 f6))) in
       let p7 = part ps 7 in let f7 = f6-on .1 .0 in
-      let levels = map-num levelNum whole p7
+      let levels = map-back whole levelNum 0 p7
       (λ i h. level-num (getD p7 i 0) (fit-below 8 12 p7 f7 i)
       (level-of p7 (g .outputs) i (omega (arith, fit-length (part partWidths 7) p7 f7)) h)) in
       let p8 = part ps 8 in let w8 = part partWidths 8 in let f8 = f6-on .1 .1 .0 in
@@ -179,11 +179,12 @@ module _ (vs : List ℕ) (f : Fit widths vs) (ok : inRange (stateOf vs) ≡ true
       let p12 = part ps 12 in let f12 = f10-on .1 .1 .0 in
       let layout : part (partFields s) 12 ≡ p12 =
       rw (
-        yes-at layoutWidths p12 f12 4 (omega arith) refl,
+        is-set-at layoutWidths p12 f12 4 (omega arith) refl,
         used-num (getD p12 6 0) (fit-get layoutWidths p12 f12 6 (omega arith)),
       ) (listed-is 0 7 p12 (sym (fit-length layoutWidths p12 f12))) in
       let all : fields s ≡ joined ps = λ i. joined
-      (regs i ∷ kind i ∷ flags i ∷ part ps 3 ∷ part ps 4 ∷ part ps 5 ∷ port i ∷ levels i ∷ out i ∷ part ps 9 ∷ prg i ∷ chr i ∷ layout i ∷ []) in
+      (regs i ∷ detection i ∷ flags i ∷ part ps 3 ∷ part ps 4 ∷ part ps 5
+      ∷ port i ∷ levels i ∷ out i ∷ part ps 9 ∷ prg i ∷ chr i ∷ layout i ∷ []) in
       all ∙ joined-cut partWidths vs f
     where
       level-of : (p : List ℕ) → every 8 (outputTest (map whole p)) ≡ true → (i : ℕ) → i < 8 → i < length p

@@ -27,31 +27,31 @@ use Rattle.sound.specs.Levels.{whole}
 use Rattle.sound.specs.Range.{levelOk}
 use Rattle.image_write.specs.Image.{levelNum, pageWidths, pageFields}
 use Rattle.image_write.proofs.Levels.{level-facts}
-use Rattle.image_read.specs.Reading.{yes, boardOf, mirroringOf, pagesOf}
+use Rattle.image_read.specs.Reading.{isSet, boardNumbered, mirroringNumbered, pagesOf}
 
 -- ---- one element
 
-pub bit-back : (b : Bool) → yes (bit b) ≡ b
+pub bit-back : (b : Bool) → isSet (bit b) ≡ b
 bit-back true = refl
 bit-back false = refl
 
-pub yes-back : (v : ℕ) → v < 2 → bit (yes v) ≡ v
-yes-back v h = sym (bit-eqb v h)
+pub is-set-back : (v : ℕ) → v < 2 → bit (isSet v) ≡ v
+is-set-back v h = sym (bit-eqb v h)
 
-pub board-back : (b : Board) → boardOf (boardNum b) ≡ b
+pub board-back : (b : Board) → boardNumbered (boardNum b) ≡ b
 board-back Unknown = refl
 board-back Namco163 = refl
 board-back Namco175 = refl
 board-back Namco340 = refl
 
-pub board-num : (v : ℕ) → v < 4 → boardNum (boardOf v) ≡ v
+pub board-num : (v : ℕ) → v < 4 → boardNum (boardNumbered v) ≡ v
 board-num zero h = refl
 board-num (suc zero) h = refl
 board-num (suc (suc zero)) h = refl
 board-num (suc (suc (suc zero))) h = refl
 board-num (suc (suc (suc (suc v)))) h = absurd (let z : ⊥ = omega arith in z)
 
-pub mirroring-back : (m : Mirroring) → mirroringOf (mirroringNum m) ≡ m
+pub mirroring-back : (m : Mirroring) → mirroringNumbered (mirroringNum m) ≡ m
 mirroring-back Vertical = refl
 mirroring-back Horizontal = refl
 mirroring-back SingleScreenA = refl
@@ -65,7 +65,7 @@ mirroring-most SingleScreenA = omega arith
 mirroring-most SingleScreenB = omega arith
 mirroring-most FourScreen = omega arith
 
-pub mirroring-num : (v : ℕ) → v ≤ 4 → mirroringNum (mirroringOf v) ≡ v
+pub mirroring-num : (v : ℕ) → v ≤ 4 → mirroringNum (mirroringNumbered v) ≡ v
 mirroring-num zero h = refl
 mirroring-num (suc zero) h = refl
 mirroring-num (suc (suc zero)) h = refl
@@ -79,9 +79,10 @@ level-back x f e =
     ∙ ap (ofBits binary32) (level-facts x e .same)
     ∙ ofBits-toBits binary32 x f
 
-whole-back : (n : ℕ) → n ≤ 16777216 → toUnsigned 32 (whole n) ≡ n
+-- whole numbers up to 2 ^ 24 are floats
+whole-back : (n : ℕ) → n ≤ 2 ^ 24 → toUnsigned 32 (whole n) ≡ n
 unfolding inFloat
-whole-back n h = unsigned-back binary32 32 n (le→leb n 16777216 h) (omega arith) .1
+whole-back n h = unsigned-back binary32 32 n (le→leb n (2 ^ 24) h) (omega arith) .1
 
 pub level-num : (n : ℕ) → n < 4096 → levelOk (whole n) ≡ true → levelNum (whole n) ≡ n
 level-num n h e =
@@ -89,7 +90,7 @@ level-num n h e =
     ∙ ap (toUnsigned 32) (level-back (whole n) (ofInt-fits binary32 (pos n)) e)
     ∙ whole-back n (omega arith)
 
-pub page-back : (n : ℕ) (p : Page) → p .0 < 2 ^ 32 → EntryIn n p → pageOf (1024 * (offsetOf p / 1024)) (yes (bit (writableOf p)))
+pub page-back : (n : ℕ) (p : Page) → p .0 < 2 ^ 32 → EntryIn n p → pageOf (1024 * (offsetOf p / 1024)) (isSet (bit (writableOf p)))
     ≡ p
 page-back n p h e =
     let c = eqb-false (p .0 / 2 ^ 30 % 2) 1 (e .clear) in
@@ -130,17 +131,11 @@ page-flag n false h = let e : (0 + 1024 * n % 2 ^ 30) / 2 ^ 31 % 2 ≡ 0 = omega
 
 -- ---- arrays
 
-pub map-back : {A : Type 0} (f : A → ℕ) (g : ℕ → A) (d : A) (xs : List A)
+pub map-back : {A B : Type 0} (f : A → B) (g : B → A) (d : A) (xs : List A)
     → ((i : ℕ) → i < length xs → g (f (getD xs i d)) ≡ getD xs i d) → map g (map f xs) ≡ xs
 map-back f g d [] h = refl
-map-back {A =
-    A} f g d (x ∷ xs) h = ap₂ (λ (y : A) (ys : List A). y ∷ ys) (h 0 (omega arith))
-    (map-back f g d xs (λ i l. h (suc i) (omega arith)))
-
-pub map-num : {A : Type 0} (f : A → ℕ) (g : ℕ → A) (vs : List ℕ) → ((i : ℕ) → i < length vs → f (g (getD vs i 0)) ≡ getD vs i 0)
-    → map f (map g vs) ≡ vs
-map-num f g [] h = refl
-map-num f g (v ∷ vs) h = ap₂ (λ (y : ℕ) (ys : List ℕ). y ∷ ys) (h 0 (omega arith)) (map-num f g vs (λ i l. h (suc i) (omega arith)))
+map-back {A} f g d (x ∷ xs) h =
+    ap₂ (λ (y : A) (ys : List A). y ∷ ys) (h 0 (omega arith)) (map-back f g d xs (λ i l. h (suc i) (omega arith)))
 
 pub pages-back : (n : ℕ) (xs : List Page) → ((i : ℕ) → getD xs i unmapped .0 < 2 ^ 32)
     → ((i : ℕ) → i < length xs → EntryIn n (getD xs i unmapped)) → pagesOf (each pageFields xs) ≡ xs
@@ -157,7 +152,7 @@ pages-num zero (v ∷ vs) f = absurd f
 pages-num (suc n) [] f = absurd f
 pages-num (suc n) (v ∷ []) f = absurd (f .1)
 pages-num (suc n) (v ∷ w ∷ vs) f =
-    let a = page-number v (yes w) (f .0) in
-    let b : bit (writableOf (pageOf (1024 * v) (yes w))) ≡ w = ap bit (page-flag v (yes w) (f .0)) ∙ yes-back w (f .1 .0) in
+    let a = page-number v (isSet w) (f .0) in
+    let b : bit (writableOf (pageOf (1024 * v) (isSet w))) ≡ w = ap bit (page-flag v (isSet w) (f .0)) ∙ is-set-back w (f .1 .0) in
     let r = pages-num n vs (f .1 .1) in
     λ i. a i ∷ b i ∷ r i

@@ -7,6 +7,7 @@ use lib.Ieee.{binary32, ofBits}
 use lib.ListN.{length, getD, take, drop}
 use Rattle.bits.specs.Fields.{unpack}
 use Rattle.bits.specs.Words.{wordOf}
+use Rattle.limits.specs.Limits.{usedMost}
 use Rattle.memory.specs.declared.Memory.{Memory}
 use Rattle.memory.specs.declared.mirroring.Mirroring.{Mirroring}
 use Rattle.memory.specs.declared.mirroring.Mirroring.the-variants.{Vertical, Horizontal, SingleScreenA, SingleScreenB, FourScreen}
@@ -28,30 +29,30 @@ use Rattle.image_write.specs.Writing.{imageCheck}
 
 -- ---- fields back to what they were made of
 
--- a yes/no of its bit
-abbrev pub yes : ℕ → Bool
-yes v = eqb v 1
+-- a yes/no of its bit: whether it is 1
+abbrev pub isSet : ℕ → Bool
+isSet v = eqb v 1
 
 -- "board 2 (Unknown, 163, 175, 340)"
-abbrev pub boardOf : ℕ → Board
-boardOf zero = Unknown
-boardOf (suc zero) = Is163
-boardOf (suc (suc zero)) = Namco175
-boardOf (suc (suc (suc k))) = Namco340
+abbrev pub boardNumbered : ℕ → Board
+boardNumbered zero = Unknown
+boardNumbered (suc zero) = Is163
+boardNumbered (suc (suc zero)) = Namco175
+boardNumbered (suc (suc (suc k))) = Namco340
 
 -- "mirroring 3 (Rust's numbers)"; no state has 5, 6 or 7
-abbrev pub mirroringOf : ℕ → Mirroring
-mirroringOf zero = Vertical
-mirroringOf (suc zero) = Horizontal
-mirroringOf (suc (suc zero)) = SingleScreenA
-mirroringOf (suc (suc (suc zero))) = SingleScreenB
-mirroringOf (suc (suc (suc (suc k)))) = FourScreen
+abbrev pub mirroringNumbered : ℕ → Mirroring
+mirroringNumbered zero = Vertical
+mirroringNumbered (suc zero) = Horizontal
+mirroringNumbered (suc (suc zero)) = SingleScreenA
+mirroringNumbered (suc (suc (suc zero))) = SingleScreenB
+mirroringNumbered (suc (suc (suc (suc k)))) = FourScreen
 
 -- "(page number 10, writable 1)"
 unfoldable pub pagesOf : List ℕ → List Page
 pagesOf [] = []
 pagesOf (n ∷ []) = []
-pagesOf (n ∷ w ∷ vs) = pageOf (1024 * n) (yes w) ∷ pagesOf vs
+pagesOf (n ∷ w ∷ vs) = pageOf (1024 * n) (isSet w) ∷ pagesOf vs
 
 -- ---- the parts of a list of fields, and the state that they make
 
@@ -66,8 +67,8 @@ audioFrom ram port outputs out phases =
     record {
       ram = ram;
       addr = getD port 0 0;
-      «auto_increment» = yes (getD port 1 0);
-      disabled = yes (getD port 2 0);
+      «auto_increment» = isSet (getD port 1 0);
+      disabled = isSet (getD port 2 0);
       «update_counter» = getD port 3 0;
       «current_channel» = getD port 4 0;
       «channel_out» = map whole outputs;
@@ -80,25 +81,25 @@ abbrev pub regsFrom : List ℕ → Regs
 regsFrom regs =
     record {
       «irq_counter» = getD regs 0 0;
-      «irq_pending» = yes (getD regs 1 0);
-      «nt_select_lo» = yes (getD regs 2 0);
-      «nt_select_hi» = yes (getD regs 3 0);
+      «irq_pending» = isSet (getD regs 1 0);
+      «nt_select_lo» = isSet (getD regs 2 0);
+      «nt_select_hi» = isSet (getD regs 3 0);
       «prg_ram_protect» = getD regs 4 0;
     }
 
--- the board of its five parts: registers and board numbers, kind, CIRAM flags, CHR banks, PRG banks; and its sound
+-- the board of its five parts: registers and board numbers, detection, CIRAM flags, CHR banks, PRG banks; and its sound
 abbrev pub chipFrom : List ℕ → List ℕ → List ℕ → List ℕ → List ℕ → Audio → Namco163
-chipFrom regs kind flags chr prg audio =
+chipFrom regs detection flags chr prg audio =
     record {
       regs = regsFrom regs;
-      board = boardOf (getD regs 5 0);
+      board = boardNumbered (getD regs 5 0);
       «mapper_num» = getD regs 6 0;
       «submapper_num» = getD regs 7 0;
       audio = audio;
-      «auto_detect_board» = yes (getD kind 0 0);
-      mirroring = mirroringOf (getD kind 1 0);
-      «prg_ram_written_to» = yes (getD kind 2 0);
-      «nt_bank_enable» = map yes flags;
+      «auto_detect_board» = isSet (getD detection 0 0);
+      mirroring = mirroringNumbered (getD detection 1 0);
+      «prg_ram_written_to» = isSet (getD detection 2 0);
+      «nt_bank_enable» = map isSet flags;
       «chr_banks» = chr;
       «prg_banks» = prg;
     }
@@ -113,10 +114,10 @@ memoryFrom prg chr layout =
             «prg_ram» = getD layout 1 0;
             «battery_ext» = getD layout 2 0;
             chr = getD layout 3 0;
-            «chr_writable» = yes (getD layout 4 0);
+            «chr_writable» = isSet (getD layout 4 0);
             ciram = getD layout 5 0;
           };
-      «battery_ext_len» = 128 * getD layout 6 0;
+      «battery_ext_len» = usedMost * getD layout 6 0;
       «prg_pages» = pagesOf prg;
       «chr_pages» = pagesOf chr;
     }
@@ -137,8 +138,8 @@ stateOf vs = stateFrom (cutInto partWidths vs)
 
 -- ---- which images are accepted
 
--- "mirroring 0..=4", and the state in range: so a mapper of 19 or 210, an update counter of at most 14, outputs of at most 3825, `out` of at most the bits of
--- 3825, page numbers inside the arena, page counts within the limits and used only with a reserve
+-- "mirroring 0..=4", and the state in range: so a mapper of 19 or 210, an update counter of at most 14, outputs of at most 3825, `out` of
+-- at most the bits of 3825, page numbers inside the arena, page counts within the limits and used only with a reserve
 unfoldable pub fieldsOk : List ℕ → Bool
 fieldsOk vs = leb (getD (part (cutInto partWidths vs) 1) 1 0) 4 && inRange (stateOf vs)
 

@@ -1,5 +1,5 @@
 -- The parts of an image as they lie in its bytes, and as the words that the code reads them in.
-use Prim.Native.Nat.{ℕ, _^_, _<_}
+use Prim.Native.Nat.{ℕ, _-_, _^_, _<_}
 use mathlib.Core.List.{List, [], _∷_, _++_}
 use lib.ListN.{take, drop, replicate}
 use Rattle.bits.specs.Fields.{unpack}
@@ -7,7 +7,8 @@ use Rattle.bits.specs.Words.{wordOf}
 use Rattle.memory.specs.declared.Memory.{Memory}
 use Rattle.sound.specs.declared.audio.Audio.{Audio}
 use Rattle.board_chip.specs.declared.namco163.Namco163.{Namco163}
-use Rattle.image_write.specs.Image.{part, chipWidths, soundWidths, memoryWidths}
+use Rattle.image_write.specs.Image.{imageBytes, part, chipWidths, soundWidths, memoryWidths}
+use Rattle.image_write.specs.Sections.{ramAt, portAt, levelsAt, outAt, phasesAt, prgPagesAt, chrPagesAt, layoutAt}
 use Rattle.image_read.specs.declared.reading.Head.{Head}
 use Rattle.image_read.specs.Reading.{audioFrom, chipFrom, memoryFrom}
 
@@ -19,7 +20,7 @@ fieldsAt ws img at k = unpack ws (wordOf (take k (drop at img)))
 abbrev pub headParts : Head → List (List ℕ)
 headParts h =
     unpack (part chipWidths 0) (h .regs)
-    ∷ unpack (part chipWidths 1) (h .kind)
+    ∷ unpack (part chipWidths 1) (h .detection)
     ∷ unpack (part chipWidths 2) (h .flags)
     ∷ (unpack (replicate 6 8) (h .«chr_first») ++ unpack (replicate 6 8) (h .«chr_last»))
     ∷ unpack (part chipWidths 4) (h .prg)
@@ -28,7 +29,7 @@ headParts h =
 -- no word holds more than its bits
 pub record HeadFits (h : Head) : Type 0 where
   pub regs : h .regs < 2 ^ 53
-  pub kind : h .kind < 2 ^ 5
+  pub detection : h .detection < 2 ^ 5
   pub flags : h .flags < 2 ^ 12
   pub first : h .«chr_first» < 2 ^ 48
   pub last : h .«chr_last» < 2 ^ 48
@@ -41,10 +42,17 @@ chipOf h audio = let p = headParts h in chipFrom (part p 0) (part p 1) (part p 2
 -- the sound, given the bits of `out`
 unfoldable pub soundAt : List ℕ → ℕ → Audio
 soundAt img bits =
-    audioFrom (fieldsAt (part soundWidths 0) img 23 128) (fieldsAt (part soundWidths 1) img 151 2) (fieldsAt (part soundWidths 2) img 153 12) (bits ∷ [])
-    (fieldsAt (part soundWidths 4) img 169 24)
+    audioFrom
+    (fieldsAt (part soundWidths 0) img ramAt (portAt - ramAt))
+    (fieldsAt (part soundWidths 1) img portAt (levelsAt - portAt))
+    (fieldsAt (part soundWidths 2) img levelsAt (outAt - levelsAt))
+    (bits ∷ [])
+    (fieldsAt (part soundWidths 4) img phasesAt (prgPagesAt - phasesAt))
 
 -- the memory
 unfoldable pub memoryAt : List ℕ → Memory
 memoryAt img =
-    memoryFrom (fieldsAt (part memoryWidths 0) img 193 88) (fieldsAt (part memoryWidths 1) img 281 22) (fieldsAt (part memoryWidths 2) img 303 4)
+    memoryFrom
+    (fieldsAt (part memoryWidths 0) img prgPagesAt (chrPagesAt - prgPagesAt))
+    (fieldsAt (part memoryWidths 1) img chrPagesAt (layoutAt - chrPagesAt))
+    (fieldsAt (part memoryWidths 2) img layoutAt (imageBytes - layoutAt))

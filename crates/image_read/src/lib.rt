@@ -1,4 +1,4 @@
-// The state of an image: what image/ writes, read back, and which images are accepted.
+// The state of an image: what image_write writes, read back, and which images are accepted.
 
 pub mod words; // words.rt: words back to fields
 pub mod pages; // pages.rt: the page tables of their bytes

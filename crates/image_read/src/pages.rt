@@ -1,15 +1,18 @@
 // The page tables of their bytes, eight entries at a time.
 use bits::words::load;
+use image_write::sections::CHR_PAGES_AT;
+use image_write::sections::PRG_PAGES_AT;
 use memory::page::Page;
 ghost use mathlib.Core.Path.{_≡_};
 ghost use mathlib.Core.List.{[], _∷_};
-ghost use Prim.Native.Nat.{_+_, _*_, _/_, _%_, _^_, _<_, _≤_};
+ghost use Prim.Native.Nat.{_+_, _-_, _*_, _/_, _%_, _^_, _<_, _≤_};
 ghost use lib.ListN.{length};
 ghost use Rattle.bits.specs.Fields.{times};
 ghost use Rattle.memory.specs.Page.{pageOf};
 ghost use Rattle.bits.specs.Cursor.{Read};
 ghost use Rattle.image_write.specs.Image.{imageBytes, pageWidths, byteAt};
-ghost use Rattle.image_read.specs.Reading.{yes, pagesOf};
+ghost use Rattle.image_write.specs.Sections.{prgPagesAt, chrPagesAt, layoutAt};
+ghost use Rattle.image_read.specs.Reading.{isSet, pagesOf};
 ghost use Rattle.image_read.specs.Sections.{fieldsAt};
 ghost use Rattle.image_read.specs.Pages.{eightFields};
 
@@ -22,7 +25,7 @@ pub struct Eight {
 // An entry of its 11 bits.
 fn page_of(w: u64) -> Page
     requires { ⌜ w < 2 ^ 11 ⌝ }
-    ensures { λ r. ⌜ r ≡ pageOf (1024 * (w / 2)) (yes (w % 2)) ⌝ }
+    ensures { λ r. ⌜ r ≡ pageOf (1024 * (w / 2)) (isSet (w % 2)) ⌝ }
 {
     Page::new((w / 2 * 1024) as usize, w % 2 == 1)
 }
@@ -60,13 +63,13 @@ fn eight_of(w: Eight) -> [Page; 8]
 
 pub fn get_prg_pages(img: &[u8]) -> [Page; 64]
     requires { ⌜ length (now img) ≡ imageBytes ⌝ }
-    ensures { λ r. ⌜ r ≡ pagesOf (fieldsAt (times 64 pageWidths) (now (img .entry)) 193 88) ⌝ }
+    ensures { λ r. ⌜ r ≡ pagesOf (fieldsAt (times 64 pageWidths) (now (img .entry)) prgPagesAt (chrPagesAt - prgPagesAt)) ⌝ }
 {
     let page = Page::UNMAPPED;
     let mut pages = [page; 64];
     let mut k: usize = 0;
     while k < 8 {
-        let g = eight_of(eight_words(img, 193 + k * 11));
+        let g = eight_of(eight_words(img, PRG_PAGES_AT + k * 11));
         let i = k * 8;
         let p = g[0];
         let q = g[1];
@@ -91,13 +94,13 @@ pub fn get_prg_pages(img: &[u8]) -> [Page; 64]
 
 pub fn get_chr_pages(img: &[u8]) -> [Page; 16]
     requires { ⌜ length (now img) ≡ imageBytes ⌝ }
-    ensures { λ r. ⌜ r ≡ pagesOf (fieldsAt (times 16 pageWidths) (now (img .entry)) 281 22) ⌝ }
+    ensures { λ r. ⌜ r ≡ pagesOf (fieldsAt (times 16 pageWidths) (now (img .entry)) chrPagesAt (layoutAt - chrPagesAt)) ⌝ }
 {
     let page = Page::UNMAPPED;
     let mut pages = [page; 16];
     let mut k: usize = 0;
     while k < 2 {
-        let g = eight_of(eight_words(img, 281 + k * 11));
+        let g = eight_of(eight_words(img, CHR_PAGES_AT + k * 11));
         let i = k * 8;
         let p = g[0];
         let q = g[1];

@@ -1,10 +1,10 @@
 // An image to its state.
 use crate::pages::get_chr_pages;
 use crate::pages::get_prg_pages;
-use crate::words::board_of;
+use crate::words::board_numbered;
 use crate::words::chr_banks_of;
 use crate::words::flags_of;
-use crate::words::mirroring_of;
+use crate::words::mirroring_numbered;
 use crate::words::prg_banks_of;
 use crate::words::regs_of;
 use bits::cursor::Cursor;
@@ -16,16 +16,28 @@ use board_chip::namco163::Namco163;
 use board_state::State;
 use board_state::in_range;
 use call_load::no_state;
+use image_write::sections::CHIP_AT;
+use image_write::sections::IMAGE_BYTES;
+use image_write::sections::LAYOUT_AT;
+use image_write::sections::LEVELS_AT;
+use image_write::sections::OUT_AT;
+use image_write::sections::PHASES_AT;
+use image_write::sections::PORT_AT;
+use image_write::sections::RAM_AT;
+use limits::OUT_MOST;
+use limits::USED_MOST;
 use memory::Memory;
 use memory::layout::Layout;
 use sound::audio::Audio;
 ghost use mathlib.Core.Path.{_≡_};
 ghost use mathlib.Core.List.{map};
-ghost use Prim.Native.Nat.{ℕ, _*_, _/_, _%_, _<_, _≤_};
+ghost use Prim.Native.Nat.{ℕ, _-_, _*_, _/_, _%_, _<_, _≤_};
 ghost use lib.ListN.{length, getD, replicate};
+ghost use Rattle.limits.specs.Limits.{outMost};
 ghost use Rattle.sound.specs.Levels.{whole};
 ghost use Rattle.board_state.specs.None.{noState};
 ghost use Rattle.image_write.specs.Image.{imageBytes, chipWidths, joined};
+ghost use Rattle.image_write.specs.Sections.{chipAt, ramAt, portAt, levelsAt, outAt, phasesAt, prgPagesAt};
 ghost use Rattle.image_read.specs.Reading.{readImage};
 ghost use Rattle.image_read.specs.Sections.{fieldsAt, headParts, HeadFits, chipOf, soundAt, memoryAt};
 
@@ -38,7 +50,7 @@ pub struct ReadImage {
 // The board's fields as the words that hold them.
 pub struct Head {
     pub regs: u64,
-    pub kind: u64,
+    pub detection: u64,
     pub flags: u64,
     pub chr_first: u64,
     pub chr_last: u64,
@@ -48,22 +60,22 @@ pub struct Head {
 // The board's words, one behind the other.
 fn read_head(img: &[u8]) -> Head
     requires { ⌜ length (now img) ≡ imageBytes ⌝ }
-    ensures { λ r. ⌜ (fieldsAt (joined chipWidths) (now (img .entry)) 0 23 ≡ joined (headParts r)) × HeadFits r ⌝ }
+    ensures { λ r. ⌜ (fieldsAt (joined chipWidths) (now (img .entry)) chipAt (ramAt - chipAt) ≡ joined (headParts r)) × HeadFits r ⌝ }
 {
     let start = Cursor {
         acc: 0,
         n: 0,
-        at: 0,
+        at: CHIP_AT,
     };
     let regs = get(img, start, 53);
-    let kind = get(img, regs.next, 5);
-    let flags = get(img, kind.next, 12);
+    let detection = get(img, regs.next, 5);
+    let flags = get(img, detection.next, 12);
     let first = get(img, flags.next, 48);
     let last = get(img, first.next, 48);
     let prg = get(img, last.next, 18);
     Head {
         regs: regs.v,
-        kind: kind.v,
+        detection: detection.v,
         flags: flags.v,
         chr_first: first.v,
         chr_last: last.v,
@@ -76,8 +88,8 @@ fn chip_of(h: Head, audio: Audio) -> Namco163
     ensures { λ r. ⌜ r ≡ chipOf h audio ⌝ }
 {
     let regs = regs_of(h.regs);
-    let board = board_of(h.regs / 0x0100_0000 % 4);
-    let mirroring = mirroring_of(h.kind / 2 % 8);
+    let board = board_numbered(h.regs / 0x0100_0000 % 4);
+    let mirroring = mirroring_numbered(h.detection / 2 % 8);
     let nt_bank_enable = flags_of(h.flags);
     let chr_banks = chr_banks_of(h.chr_first, h.chr_last);
     let prg_banks = prg_banks_of(h.prg);
@@ -87,9 +99,9 @@ fn chip_of(h: Head, audio: Audio) -> Namco163
         mapper_num: (h.regs / 256 % 65536) as u16,
         submapper_num: (h.regs % 256) as u8,
         audio: audio,
-        auto_detect_board: h.kind / 16 % 2 == 1,
+        auto_detect_board: h.detection / 16 % 2 == 1,
         mirroring: mirroring,
-        prg_ram_written_to: h.kind % 2 == 1,
+        prg_ram_written_to: h.detection % 2 == 1,
         nt_bank_enable: nt_bank_enable,
         chr_banks: chr_banks,
         prg_banks: prg_banks,
@@ -98,13 +110,13 @@ fn chip_of(h: Head, audio: Audio) -> Namco163
 
 fn get_ram(img: &[u8]) -> [u8; 128]
     requires { ⌜ length (now img) ≡ imageBytes ⌝ }
-    ensures { λ r. ⌜ r ≡ fieldsAt (replicate 128 8) (now (img .entry)) 23 128 ⌝ }
+    ensures { λ r. ⌜ r ≡ fieldsAt (replicate 128 8) (now (img .entry)) ramAt (portAt - ramAt) ⌝ }
 {
     let mut ram = [0u8; 128];
     let c = Cursor {
         acc: 0,
         n: 0,
-        at: 23,
+        at: RAM_AT,
     };
     get_bytes(img, c, &mut ram);
     ram
@@ -129,13 +141,13 @@ fn levels_of(ns: [u32; 8]) -> [f32; 8]
 
 fn get_levels(img: &[u8]) -> [f32; 8]
     requires { ⌜ length (now img) ≡ imageBytes ⌝ }
-    ensures { λ r. ⌜ r ≡ map whole (fieldsAt (replicate 8 12) (now (img .entry)) 153 12) ⌝ }
+    ensures { λ r. ⌜ r ≡ map whole (fieldsAt (replicate 8 12) (now (img .entry)) levelsAt (outAt - levelsAt)) ⌝ }
 {
     let mut ns = [0u32; 8];
     let c = Cursor {
         acc: 0,
         n: 0,
-        at: 153,
+        at: LEVELS_AT,
     };
     get_run(img, c, 12, &mut ns);
     levels_of(ns)
@@ -143,13 +155,13 @@ fn get_levels(img: &[u8]) -> [f32; 8]
 
 fn get_phases(img: &[u8]) -> [u32; 8]
     requires { ⌜ length (now img) ≡ imageBytes ⌝ }
-    ensures { λ r. ⌜ r ≡ fieldsAt (replicate 8 24) (now (img .entry)) 169 24 ⌝ }
+    ensures { λ r. ⌜ r ≡ fieldsAt (replicate 8 24) (now (img .entry)) phasesAt (prgPagesAt - phasesAt) ⌝ }
 {
     let mut phases = [0u32; 8];
     let c = Cursor {
         acc: 0,
         n: 0,
-        at: 169,
+        at: PHASES_AT,
     };
     get_run(img, c, 24, &mut phases);
     phases
@@ -157,11 +169,11 @@ fn get_phases(img: &[u8]) -> [u32; 8]
 
 // The sound, given the bits of `out`, which are a number's.
 fn read_sound(img: &[u8], bits: u32) -> Audio
-    requires { ⌜ (length (now img) ≡ imageBytes) × (bits ≤ 0x456F1000) ⌝ }
+    requires { ⌜ (length (now img) ≡ imageBytes) × (bits ≤ outMost) ⌝ }
     ensures { λ r. ⌜ r ≡ soundAt (now (img .entry)) bits ⌝ }
 {
     let ram = get_ram(img);
-    let port = load(img, 151, 2, 0);
+    let port = load(img, PORT_AT, 2, 0);
     let outs = get_levels(img);
     let phases = get_phases(img);
     let out = f32::from_bits(bits);
@@ -184,7 +196,7 @@ fn read_memory(img: &[u8]) -> Memory
 {
     let prg = get_prg_pages(img);
     let chr = get_chr_pages(img);
-    let w = load(img, 303, 4, 0);
+    let w = load(img, LAYOUT_AT, 4, 0);
     let layout = Layout {
         prg_rom: (w / 0x0040_0000 % 1024) as usize,
         prg_ram: (w / 0x8000 % 128) as usize,
@@ -195,7 +207,7 @@ fn read_memory(img: &[u8]) -> Memory
     };
     Memory {
         layout: layout,
-        battery_ext_len: (w % 2 * 128) as usize,
+        battery_ext_len: (w % 2) as usize * USED_MOST,
         prg_pages: prg,
         chr_pages: chr,
     }
@@ -212,9 +224,9 @@ fn refused(number: u8) -> ReadImage
     }
 }
 
-// The state of an image of 307 bytes, given the board's words and the bits of `out`.
-fn read_state(img: &[u8], h: Head, bits: u32) -> State
-    requires { ⌜ (length (now img) ≡ imageBytes) × HeadFits h × (bits ≤ 0x456F1000) ⌝ }
+// The state of an image of IMAGE_BYTES bytes, given the board's words and the bits of `out`.
+fn read_fields(img: &[u8], h: Head, bits: u32) -> State
+    requires { ⌜ (length (now img) ≡ imageBytes) × HeadFits h × (bits ≤ outMost) ⌝ }
     ensures { λ r. ⌜ r ≡ record { chip = chipOf h (soundAt (now (img .entry)) bits); memory = memoryAt (now (img .entry)) } ⌝ }
 {
     let m = read_memory(img);
@@ -230,18 +242,18 @@ fn read_state(img: &[u8], h: Head, bits: u32) -> State
 pub fn read_image(img: &[u8]) -> ReadImage
     ensures { λ r. ⌜ r ≡ readImage (now (img .entry)) ⌝ }
 {
-    if img.len() != 307 {
+    if img.len() != IMAGE_BYTES {
         return refused(1);
     }
-    let bits = load(img, 165, 4, 0);
+    let bits = load(img, OUT_AT, 4, 0);
     let h = read_head(img);
-    if 0x456F_1000 < bits {
+    if (OUT_MOST as u64) < bits {
         return refused(2);
     }
-    if 4 < h.kind / 2 % 8 {
+    if 4 < h.detection / 2 % 8 {
         return refused(2);
     }
-    let s = read_state(img, h, bits as u32);
+    let s = read_fields(img, h, bits as u32);
     if in_range(s) {
         return ReadImage {
             refusal: 0,

@@ -8,7 +8,7 @@ ghost use Prim.Native.Nat.{_/_, _%_};
 ghost use lib.ListN.{replicate};
 ghost use Rattle.bits.specs.Fields.{unpack};
 ghost use Rattle.image_write.specs.Image.{part, chipWidths};
-ghost use Rattle.image_read.specs.Reading.{yes, regsFrom, boardOf, mirroringOf};
+ghost use Rattle.image_read.specs.Reading.{isSet, regsFrom, boardNumbered, mirroringNumbered};
 
 pub fn regs_of(w: u64) -> Regs
     ensures { λ r. ⌜ r ≡ regsFrom (unpack (part chipWidths 0) w) ⌝ }
@@ -22,8 +22,8 @@ pub fn regs_of(w: u64) -> Regs
     }
 }
 
-pub fn board_of(n: u64) -> Board
-    ensures { λ r. ⌜ r ≡ boardOf n ⌝ }
+pub fn board_numbered(n: u64) -> Board
+    ensures { λ r. ⌜ r ≡ boardNumbered n ⌝ }
 {
     if n == 0 {
         return Board::Unknown;
@@ -37,8 +37,8 @@ pub fn board_of(n: u64) -> Board
     Board::Namco340
 }
 
-pub fn mirroring_of(n: u64) -> Mirroring
-    ensures { λ r. ⌜ r ≡ mirroringOf n ⌝ }
+pub fn mirroring_numbered(n: u64) -> Mirroring
+    ensures { λ r. ⌜ r ≡ mirroringNumbered n ⌝ }
 {
     if n == 0 {
         return Mirroring::Vertical;
@@ -57,7 +57,7 @@ pub fn mirroring_of(n: u64) -> Mirroring
 
 // The twelve CIRAM flags of their word.
 pub fn flags_of(w: u64) -> [bool; 12]
-    ensures { λ r. ⌜ r ≡ map yes (unpack (replicate 12 1) w) ⌝ }
+    ensures { λ r. ⌜ r ≡ map isSet (unpack (replicate 12 1) w) ⌝ }
 {
     [
         w / 2048 % 2 == 1,

@@ -1,7 +1,7 @@
 -- Laws of parts: words of several fields, and parts one behind the other.
 use mathlib.Core.Path.{_≡_, refl, sym, ap, _∙_}
 use mathlib.Core.Bool.{Bool, false}
-use mathlib.Core.List.{List, [], _∷_, _++_, map, append-assoc}
+use mathlib.Core.List.{List, [], _∷_, _++_, map, append-assoc, map-append}
 use Prim.Native.Nat.{ℕ, zero, suc, _+_, _*_, _^_, _≤_, _<_}
 use native.Mathlib.Numerals.{add-one}
 use native.Mathlib.Omega.{arith}
@@ -13,7 +13,7 @@ use Rattle.bits.specs.Fields.{total, pack, Fit, bit}
 use Rattle.bits.specs.Cursor.{Held, Wrote}
 use Rattle.bits.specs.declared.cursor.Cursor.{Cursor}
 use Rattle.bits.proofs.Fields.{pack-append, replicate-snoc}
-use Rattle.bits.proofs.cursor.Laws.{wrote-append, wrote-none}
+use Rattle.bits.proofs.cursor.Laws.{wrote-append, wrote-none, wrote-word}
 use Rattle.image_write.specs.Image.{joined, byteAt}
 
 -- ---- words of fields of one width
@@ -25,10 +25,6 @@ pack-snoc n w vs v e =
     ap (λ (ws : List ℕ). pack ws (vs ++ v ∷ [])) (sym (replicate-snoc n w))
     ∙ pack-append (replicate n w) (w ∷ []) vs (v ∷ []) (length-replicate n w ∙ sym e)
     ∙ rw (let z : w + 0 ≡ w = omega arith in z) (omega arith)
-
-map-append : {A : Type 0} (f : A → ℕ) (xs ys : List A) → map f (xs ++ ys) ≡ map f xs ++ map f ys
-map-append f [] ys = refl
-map-append f (x ∷ xs) ys = ap (λ (l : List ℕ). f x ∷ l) (map-append f xs ys)
 
 pub flags-more : (xs : List Bool) (i : ℕ) → i < length xs
     → pack (replicate (i + 1) 1) (map bit (take (i + 1) xs)) ≡ pack (replicate i 1) (map bit (take i xs)) * 2 + bit (getD xs i false)
@@ -60,6 +56,11 @@ pub wrote-to : (a b : List ℕ) (j k : ℕ) (w : Cursor) (ws vs : List ℕ) → 
     → Wrote a b (byteAt j) (byteAt k) ws vs
 wrote-to a b j k w ws vs e p = rw (← at-byte w k (p .held) (omega (arith, p .pos))) p
 
+-- a word that holds several fields, written
+pub wrote-fields : {a b : List ℕ} {u v : Cursor} (ws vs : List ℕ) {x : ℕ} → x ≡ pack ws vs → Wrote a b u v (total ws ∷ []) (x ∷ [])
+    → Wrote a b u v ws vs
+wrote-fields {a} {b} {u} {v} ws vs e p = wrote-word a b u v ws vs (rw e at p)
+
 -- ---- values that fit
 
 pub fit-replicate : (n w : ℕ) (xs : List ℕ) → length xs ≡ n → ((i : ℕ) → i < n → getD xs i 0 < 2 ^ w) → Fit (replicate n w) xs
@@ -70,10 +71,6 @@ fit-replicate (suc n) w (x ∷ xs) e h =
     (h 0 (omega arith), fit-replicate n w xs (omega arith) (λ i l. h (suc i) (omega arith)))
 
 -- ---- parts one behind the other
-
-pub wrote-done : (a : List ℕ) (k : ℕ) → Wrote a a (byteAt k) (byteAt k) (joined []) (joined [])
-unfolding joined
-wrote-done a k = wrote-none a (byteAt k) (byte-held k)
 
 pub wrote-part : (a b c : List ℕ) (u v w : Cursor) (ws vs : List ℕ) (wss vss : List (List ℕ)) → length ws ≡ length vs
     → Wrote a b u v ws vs → Wrote b c v w (joined wss) (joined vss) → Wrote a c u w (joined (ws ∷ wss)) (joined (vs ∷ vss))
@@ -90,12 +87,16 @@ infixr 4 _then_
 abbrev pub _then_ : {A B : Type 0} → A → B → A × B
 _then_ a b = (a, b)
 
+-- as many parts, and R of each two
+abbrev pub PartByPart : (List ℕ → List ℕ → Type 0) → List (List ℕ) → List (List ℕ) → Type 0
+PartByPart R [] [] = Unit
+PartByPart R [] (v ∷ vs) = ⊥
+PartByPart R (w ∷ ws) [] = ⊥
+PartByPart R (w ∷ ws) (v ∷ vs) = R w v × PartByPart R ws vs
+
 -- as many values as widths, part by part
 abbrev pub SameLengths : List (List ℕ) → List (List ℕ) → Type 0
-SameLengths [] [] = Unit
-SameLengths [] (v ∷ vs) = ⊥
-SameLengths (w ∷ ws) [] = ⊥
-SameLengths (w ∷ ws) (v ∷ vs) = (length w ≡ length v) × SameLengths ws vs
+SameLengths = PartByPart (λ w v. length w ≡ length v)
 
 pub joined-lengths : (ws vs : List (List ℕ)) → SameLengths ws vs → length (joined ws) ≡ length (joined vs)
 unfolding joined

@@ -1,5 +1,5 @@
--- 01 "Host and image": "The image is 307 bytes, bit-packed, most significant first": the widths of its fields and a state's values for them, in 01's
--- order, as lists of parts. "Arrays go from index 0."
+-- 01 "Host and image": "The image is 307 bytes, bit-packed, most significant first": the widths of its fields and a state's values for
+-- them, in 01's order, as lists of parts. "Arrays go from index 0."
 use Prim.Native.Nat.{ℕ, _/_}
 use mathlib.Core.List.{List, [], _∷_, _++_, map}
 use lib.Dec.{eqb}
@@ -8,6 +8,7 @@ use lib.ListN.{getD, replicate}
 use Rattle.bits.specs.Fields.{pack, bit, times, each}
 use Rattle.bits.specs.Words.{bytesOf}
 use Rattle.bits.specs.declared.cursor.Cursor.{Cursor}
+use Rattle.limits.specs.Limits.{usedMost}
 use Rattle.memory.specs.declared.Memory.{Memory}
 use Rattle.memory.specs.declared.page.Page.{Page}
 use Rattle.memory.specs.Mirroring.{mirroringNum}
@@ -22,8 +23,8 @@ use Rattle.sound.specs.Levels.{wholePart}
 abbrev pub imageBytes : ℕ
 imageBytes = 307
 
--- ---- the board: "counter 16, pending 1, selects low, high 1+1, protect 8, board 2 (Unknown, 163, 175, 340), mapper 16, submapper 8, detecting 1,
--- mirroring 3 (Rust's numbers), written 1, CIRAM flags 12, CHR banks 12 times 8, PRG banks 3 times 6"
+-- ---- the board: "counter 16, pending 1, selects low, high 1+1, protect 8, board 2 (Unknown, 163, 175, 340), mapper 16, submapper 8,
+-- detecting 1, mirroring 3 (Rust's numbers), written 1, CIRAM flags 12, CHR banks 12 times 8, PRG banks 3 times 6"
 
 abbrev pub chipWidths : List (List ℕ)
 chipWidths =
@@ -51,7 +52,8 @@ chipFields n =
     ∷ n .«prg_banks»
     ∷ []
 
--- ---- the sound: "sound RAM 128 times 8, address 7, auto 1, disabled 1, update counter 4, channel 3, outputs 8 times 12, `out` 32, phases 8 times 24"
+-- ---- the sound: "sound RAM 128 times 8, address 7, auto 1, disabled 1, update counter 4, channel 3, outputs 8 times 12, `out` 32,
+-- phases 8 times 24"
 
 abbrev pub soundWidths : List (List ℕ)
 soundWidths = replicate 128 8 ∷ (7 ∷ 1 ∷ 1 ∷ 4 ∷ 3 ∷ []) ∷ replicate 8 12 ∷ (32 ∷ []) ∷ replicate 8 24 ∷ []
@@ -69,8 +71,8 @@ soundFields a =
     ∷ a .«phase_ext»
     ∷ []
 
--- ---- the memory: "entries PRG then CHR 80 times (page number 10, writable 1); pages of PRG-ROM 10, PRG-RAM 7, reserve 1, CHR 9, CHR-RAM flag 1, CIRAM 3,
--- battery used 1"
+-- ---- the memory: "entries PRG then CHR 80 times (page number 10, writable 1); pages of PRG-ROM 10, PRG-RAM 7, reserve 1, CHR 9,
+-- CHR-RAM flag 1, CIRAM 3, battery used 1"
 
 abbrev pub pageWidths : List ℕ
 pageWidths = 10 ∷ 1 ∷ []
@@ -89,7 +91,7 @@ layoutFields m =
     ∷ m .layout .chr
     ∷ bit (m .layout .«chr_writable»)
     ∷ m .layout .ciram
-    ∷ bit (eqb (m .«battery_ext_len») 128)
+    ∷ bit (eqb (m .«battery_ext_len») usedMost)
     ∷ []
 
 abbrev pub memoryWidths : List (List ℕ)

@@ -1,4 +1,5 @@
--- The image of a state: 307 bytes. What stands in quotes is a sentence of 01, the scope document.
+-- The image of a state. What stands in quotes is a sentence of 01, the scope document.
 pub mod Image
+pub mod Sections
 pub mod Pages
 pub mod Writing

@@ -1,4 +1,6 @@
 // The page tables to their bytes, eight entries at a time.
+use crate::sections::CHR_PAGES_AT;
+use crate::sections::PRG_PAGES_AT;
 use crate::words::quad_word;
 use bits::cursor::Cursor;
 use bits::cursor::put;
@@ -10,6 +12,7 @@ ghost use Rattle.bits.specs.Fields.{times, each};
 ghost use Rattle.bits.specs.Cursor.{Wrote};
 ghost use Rattle.image_write.specs.Image.{imageBytes, pageWidths, pageFields, byteAt};
 ghost use Rattle.image_write.specs.Pages.{PagesFit};
+ghost use Rattle.image_write.specs.Sections.{prgPagesAt, chrPagesAt, layoutAt};
 
 // Eight entries in the 11 bytes from a place on.
 fn put_eight(img: &mut [u8], at: usize, g: [Page; 8])
@@ -36,7 +39,8 @@ fn put_eight(img: &mut [u8], at: usize, g: [Page; 8])
 // Each table goes by eight entries.
 pub fn put_prg_pages(img: &mut [u8], pages: [Page; 64])
     requires { ⌜ (length (now img) ≡ imageBytes) × PagesFit 64 pages ⌝ }
-    ensures { λ _. ⌜ Wrote (now (img .entry)) (now (img .exit)) (byteAt 193) (byteAt 281) (times 64 pageWidths) (each pageFields pages) ⌝ }
+    ensures { λ _. ⌜ Wrote (now (img .entry)) (now (img .exit)) (byteAt prgPagesAt) (byteAt chrPagesAt)
+        (times 64 pageWidths) (each pageFields pages) ⌝ }
 {
     let mut k: usize = 0;
     while k < 8 {
@@ -49,14 +53,15 @@ pub fn put_prg_pages(img: &mut [u8], pages: [Page; 64])
         let u = pages[i + 5];
         let v = pages[i + 6];
         let x = pages[i + 7];
-        put_eight(img, 193 + k * 11, [p, q, r, s, t, u, v, x]);
+        put_eight(img, PRG_PAGES_AT + k * 11, [p, q, r, s, t, u, v, x]);
         k += 1;
     }
 }
 
 pub fn put_chr_pages(img: &mut [u8], pages: [Page; 16])
     requires { ⌜ (length (now img) ≡ imageBytes) × PagesFit 16 pages ⌝ }
-    ensures { λ _. ⌜ Wrote (now (img .entry)) (now (img .exit)) (byteAt 281) (byteAt 303) (times 16 pageWidths) (each pageFields pages) ⌝ }
+    ensures { λ _. ⌜ Wrote (now (img .entry)) (now (img .exit)) (byteAt chrPagesAt) (byteAt layoutAt)
+        (times 16 pageWidths) (each pageFields pages) ⌝ }
 {
     let mut k: usize = 0;
     while k < 2 {
@@ -69,7 +74,7 @@ pub fn put_chr_pages(img: &mut [u8], pages: [Page; 16])
         let u = pages[i + 5];
         let v = pages[i + 6];
         let x = pages[i + 7];
-        put_eight(img, 281 + k * 11, [p, q, r, s, t, u, v, x]);
+        put_eight(img, CHR_PAGES_AT + k * 11, [p, q, r, s, t, u, v, x]);
         k += 1;
     }
 }

@@ -1,9 +1,17 @@
 // A state to its image. The parts that start at a byte's start begin from their own place.
 use crate::pages::put_chr_pages;
 use crate::pages::put_prg_pages;
+use crate::sections::CHIP_AT;
+use crate::sections::IMAGE_BYTES;
+use crate::sections::LAYOUT_AT;
+use crate::sections::LEVELS_AT;
+use crate::sections::OUT_AT;
+use crate::sections::PHASES_AT;
+use crate::sections::PORT_AT;
+use crate::sections::RAM_AT;
 use crate::words::banks_word;
+use crate::words::detection_word;
 use crate::words::flags_word;
-use crate::words::kind_word;
 use crate::words::layout_word;
 use crate::words::port_word;
 use crate::words::regs_word;
@@ -28,7 +36,9 @@ ghost use Rattle.limits.specs.Every.{every};
 ghost use Rattle.board_state.specs.State.{bankTest, inRange};
 ghost use Rattle.sound.specs.Range.{outOk, outputTest, phaseTest, audioOk};
 ghost use Rattle.memory.specs.Range.{memoryOk};
-ghost use Rattle.image_write.specs.Image.{imageBytes, chipWidths, chipFields, soundWidths, soundFields, levelNum, memoryWidths, memoryFields, joined, imageOf, byteAt};
+ghost use Rattle.image_write.specs.Image.{imageBytes, chipWidths, chipFields, soundWidths};
+ghost use Rattle.image_write.specs.Image.{soundFields, levelNum, memoryWidths, memoryFields, joined, imageOf, byteAt};
+ghost use Rattle.image_write.specs.Sections.{chipAt, ramAt, portAt, levelsAt, outAt, phasesAt, prgPagesAt};
 ghost use Rattle.image_write.specs.Writing.{writeRefusal, writtenImage};
 
 // The twelve CHR banks, a byte each, from any bit on.
@@ -50,12 +60,12 @@ fn put_chr_banks(img: &mut [u8], w: Cursor, banks: [u8; 12]) -> Cursor
 // The channel outputs as whole numbers.
 fn put_levels(img: &mut [u8], outs: [f32; 8])
     requires { ⌜ (length (now img) ≡ imageBytes) × (every 8 (outputTest outs) ≡ true) ⌝ }
-    ensures { λ _. ⌜ Wrote (now (img .entry)) (now (img .exit)) (byteAt 153) (byteAt 165) (replicate 8 12) (map levelNum outs) ⌝ }
+    ensures { λ _. ⌜ Wrote (now (img .entry)) (now (img .exit)) (byteAt levelsAt) (byteAt outAt) (replicate 8 12) (map levelNum outs) ⌝ }
 {
     let mut c = Cursor {
         acc: 0,
         n: 0,
-        at: 153,
+        at: LEVELS_AT,
     };
     let mut i: usize = 0;
     while i < 8 {
@@ -68,24 +78,24 @@ fn put_levels(img: &mut [u8], outs: [f32; 8])
 
 fn put_ram(img: &mut [u8], ram: [u8; 128])
     requires { ⌜ length (now img) ≡ imageBytes ⌝ }
-    ensures { λ _. ⌜ Wrote (now (img .entry)) (now (img .exit)) (byteAt 23) (byteAt 151) (replicate 128 8) ram ⌝ }
+    ensures { λ _. ⌜ Wrote (now (img .entry)) (now (img .exit)) (byteAt ramAt) (byteAt portAt) (replicate 128 8) ram ⌝ }
 {
     let c = Cursor {
         acc: 0,
         n: 0,
-        at: 23,
+        at: RAM_AT,
     };
     put_bytes(img, c, &ram);
 }
 
 fn put_out(img: &mut [u8], x: f32)
     requires { ⌜ (length (now img) ≡ imageBytes) × (outOk x ≡ true) ⌝ }
-    ensures { λ _. ⌜ Wrote (now (img .entry)) (now (img .exit)) (byteAt 165) (byteAt 169) (32 ∷ []) (toBits binary32 x ∷ []) ⌝ }
+    ensures { λ _. ⌜ Wrote (now (img .entry)) (now (img .exit)) (byteAt outAt) (byteAt phasesAt) (32 ∷ []) (toBits binary32 x ∷ []) ⌝ }
 {
     let c = Cursor {
         acc: 0,
         n: 0,
-        at: 165,
+        at: OUT_AT,
     };
     let bits = f32::to_bits(x);
     put(img, c, 32, bits as u64);
@@ -93,26 +103,27 @@ fn put_out(img: &mut [u8], x: f32)
 
 fn put_phases(img: &mut [u8], phases: [u32; 8])
     requires { ⌜ (length (now img) ≡ imageBytes) × (every 8 (phaseTest phases) ≡ true) ⌝ }
-    ensures { λ _. ⌜ Wrote (now (img .entry)) (now (img .exit)) (byteAt 169) (byteAt 193) (replicate 8 24) phases ⌝ }
+    ensures { λ _. ⌜ Wrote (now (img .entry)) (now (img .exit)) (byteAt phasesAt) (byteAt prgPagesAt) (replicate 8 24) phases ⌝ }
 {
     let c = Cursor {
         acc: 0,
         n: 0,
-        at: 169,
+        at: PHASES_AT,
     };
     put_run(img, c, 24, &phases);
 }
 
 fn put_chip(img: &mut [u8], chip: Namco163)
     requires { ⌜ (length (now img) ≡ imageBytes) × (every 3 (bankTest (chip .«prg_banks»)) ≡ true) ⌝ }
-    ensures { λ _. ⌜ Wrote (now (img .entry)) (now (img .exit)) (byteAt 0) (byteAt 23) (joined chipWidths) (joined (chipFields chip)) ⌝ }
+    ensures { λ _. ⌜ Wrote (now (img .entry)) (now (img .exit)) (byteAt chipAt) (byteAt ramAt)
+        (joined chipWidths) (joined (chipFields chip)) ⌝ }
 {
     let regs = chip.regs;
     let board = chip.board;
     let w0 = Cursor {
         acc: 0,
         n: 0,
-        at: 0,
+        at: CHIP_AT,
     };
     let w1 = put(
         img,
@@ -125,7 +136,7 @@ fn put_chip(img: &mut [u8], chip: Namco163)
         img,
         w1,
         5,
-        kind_word(chip.auto_detect_board, mirroring, chip.prg_ram_written_to),
+        detection_word(chip.auto_detect_board, mirroring, chip.prg_ram_written_to),
     );
     let flags = chip.nt_bank_enable;
     let w3 = put(img, w2, 12, flags_word(flags));
@@ -137,14 +148,15 @@ fn put_chip(img: &mut [u8], chip: Namco163)
 
 fn put_sound(img: &mut [u8], audio: Audio)
     requires { ⌜ (length (now img) ≡ imageBytes) × (audioOk audio ≡ true) ⌝ }
-    ensures { λ _. ⌜ Wrote (now (img .entry)) (now (img .exit)) (byteAt 23) (byteAt 193) (joined soundWidths) (joined (soundFields audio)) ⌝ }
+    ensures { λ _. ⌜ Wrote (now (img .entry)) (now (img .exit)) (byteAt ramAt) (byteAt prgPagesAt)
+        (joined soundWidths) (joined (soundFields audio)) ⌝ }
 {
     let ram = audio.ram;
     put_ram(img, ram);
     let c = Cursor {
         acc: 0,
         n: 0,
-        at: 151,
+        at: PORT_AT,
     };
     let word = port_word(
         audio.addr,
@@ -164,7 +176,8 @@ fn put_sound(img: &mut [u8], audio: Audio)
 
 fn put_memory(img: &mut [u8], m: Memory)
     requires { ⌜ (length (now img) ≡ imageBytes) × (memoryOk m ≡ true) ⌝ }
-    ensures { λ _. ⌜ Wrote (now (img .entry)) (now (img .exit)) (byteAt 193) (byteAt 307) (joined memoryWidths) (joined (memoryFields m)) ⌝ }
+    ensures { λ _. ⌜ Wrote (now (img .entry)) (now (img .exit)) (byteAt prgPagesAt) (byteAt imageBytes)
+        (joined memoryWidths) (joined (memoryFields m)) ⌝ }
 {
     let prg = m.prg_pages;
     put_prg_pages(img, prg);
@@ -173,7 +186,7 @@ fn put_memory(img: &mut [u8], m: Memory)
     let c = Cursor {
         acc: 0,
         n: 0,
-        at: 303,
+        at: LAYOUT_AT,
     };
     put(img, c, 32, layout_word(m));
 }
@@ -195,7 +208,7 @@ pub fn put_state(img: &mut [u8], s: State)
 pub fn write_image(s: State, img: &mut [u8]) -> u8
     ensures { λ r. ⌜ (r ≡ writeRefusal s (length (now (img .entry)))) × (now (img .exit) ≡ writtenImage s (now (img .entry))) ⌝ }
 {
-    if img.len() != 307 {
+    if img.len() != IMAGE_BYTES {
         return 1;
     }
     if in_range(s) {

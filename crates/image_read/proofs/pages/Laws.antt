@@ -4,7 +4,7 @@ use mathlib.Core.List.{List, [], _∷_, _++_}
 use Prim.Native.Nat.{ℕ, zero, suc, _+_, _*_, _^_, _/_, _%_, _≤_, _<_}
 use native.Mathlib.Nat.{div-one, add-zero}
 use native.Mathlib.Omega.{arith}
-use lib.ListN.{length, take, drop, set, getD, length-append}
+use lib.ListN.{length, take, drop, set, getD, length-append, length-set}
 use lib.Seq.{take-all, take-at, length-take-le, sets-eq}
 use Rattle.bits.specs.Fields.{total, pack, unpack, Fit, after, times}
 use Rattle.bits.specs.Words.{wordOf}
@@ -16,7 +16,7 @@ use Rattle.memory.specs.declared.page.Page.{Page}
 use Rattle.memory.specs.Page.{pageOf, unmapped}
 use Rattle.image_write.specs.Image.{pageWidths, byteAt}
 use Rattle.image_read.specs.declared.pages.Eight.{Eight}
-use Rattle.image_read.specs.Reading.{yes, pagesOf}
+use Rattle.image_read.specs.Reading.{isSet, pagesOf}
 use Rattle.image_read.specs.Sections.{fieldsAt}
 use Rattle.image_read.specs.Pages.{eightFields}
 use Rattle.bits.proofs.Lists.{listed, listed-is}
@@ -28,11 +28,11 @@ pages-append zero [] us f = refl
 pages-append zero (v ∷ vs) us f = absurd f
 pages-append (suc i) [] us f = absurd f
 pages-append (suc i) (n ∷ []) us f = absurd (f .1)
-pages-append (suc i) (n ∷ w ∷ vs) us f = ap (λ (l : List Page). pageOf (1024 * n) (yes w) ∷ l) (pages-append i vs us (f .1 .1))
+pages-append (suc i) (n ∷ w ∷ vs) us f = ap (λ (l : List Page). pageOf (1024 * n) (isSet w) ∷ l) (pages-append i vs us (f .1 .1))
 
 -- an entry of 11 bits
 abbrev pub pageIn : ℕ → Page
-pageIn w = pageOf (1024 * (w / 2)) (yes (w % 2))
+pageIn w = pageOf (1024 * (w / 2)) (isSet (w % 2))
 
 -- four entries of 44 bits
 abbrev pub fourIn : ℕ → List Page
@@ -49,10 +49,10 @@ four-pages w h =
     let n3 : w % 2048 / 2 ≡ w / 2 % 1024 = omega arith in
     let b3 : w % 2048 % 2 ≡ w / 1 % 2 = omega arith in
     λ i.
-    pageOf (1024 * n0 i) (yes (w / 0x200000000 % 2))
-    ∷ pageOf (1024 * n1 i) (yes (b1 i))
-    ∷ pageOf (1024 * n2 i) (yes (b2 i))
-    ∷ pageOf (1024 * n3 i) (yes (b3 i))
+    pageOf (1024 * n0 i) (isSet (w / 0x200000000 % 2))
+    ∷ pageOf (1024 * n1 i) (isSet (b1 i))
+    ∷ pageOf (1024 * n2 i) (isSet (b2 i))
+    ∷ pageOf (1024 * n3 i) (isSet (b3 i))
     ∷ []
 
 -- eight entries of two words
@@ -134,42 +134,55 @@ eight-fields img p q w f =
           (f .fit .1 .0);
     }
 
--- the entries of the first k groups are those of the fields read
-pub record PagesRead (img : List ℕ) (a k : ℕ) (xs : List Page) : Type 0 where
+-- a table of n eights, its first k eights those of the fields read from byte a on
+pub record PagesRead (n a : ℕ) (img : List ℕ) (xs : List Page) (k : ℕ) : Type 0 where
+  pub within : k ≤ n
+  pub long : length xs ≡ n * 8
   pub vs : List ℕ
   pub read : Read img (byteAt a) (byteAt (a + k * 11)) (times (k * 8) pageWidths) vs
   pub same : take (k * 8) xs ≡ pagesOf vs
 
-pub pages-none : (img : List ℕ) (a : ℕ) (xs : List Page) → PagesRead img a 0 xs
-unfolding times pagesOf
-pages-none img a xs = record { vs = []; read = rw (add-zero a) (read-none img (byteAt a) (byte-behind img a)); same = refl }
+module _ {n a : ℕ} {img : List ℕ} {xs : List Page} where
+  pub pages-none : length xs ≡ n * 8 → PagesRead n a img xs 0
+  unfolding times pagesOf
+  pages-none l =
+      record {
+        within = omega arith;
+        long = l;
+        vs = [];
+        read = rw (add-zero a) (read-none img (byteAt a) (byte-behind img a));
+        same = refl;
+      }
 
-pub pages-more : (img : List ℕ) (a k : ℕ) (w : Eight) (xs g : List Page) → k * 8 + 8 ≤ length xs → PagesRead img a k xs
-    → Read img (byteAt (a + k * 11)) (byteAt (a + k * 11 + 11)) (44 ∷ 44 ∷ []) (w .first ∷ w .last ∷ []) → g ≡ pagesOf (eightFields w)
-    → length g ≡ 8
-    → PagesRead img a (k + 1) (withEight xs (k * 8) g)
-pages-more img a k w xs g h p f e l =
-    let us = eightFields w in
-    let e11 : (k + 1) * 11 ≡ k * 11 + 11 = omega arith in
-    let e8 : (k + 1) * 8 ≡ k * 8 + 8 = omega arith in
-    let ea : a + (k * 11 + 11) ≡ a + k * 11 + 11 = omega arith in
-    record {
-      vs = p .vs ++ us;
-      read =
-          rw (e11, e8, ea, times-add (k * 8) 8 pageWidths)
-          (read-append img (byteAt a) (byteAt (a + k * 11)) (byteAt (a + k * 11 + 11)) (times (k * 8) pageWidths) (p .vs)
-          (times 8 pageWidths) us (p .read)
-          (eight-fields img (byteAt (a + k * 11)) (byteAt (a + k * 11 + 11)) w f));
-      same =
-          rw e8
-          (take-with-eight xs g (k * 8) h l ∙ ap₂ (λ (s t : List Page). s ++ t) (p .same) e
-          ∙ sym (pages-append (k * 8) (p .vs) us (p .read .fit)));
-    }
+  pub pages-more : {k : ℕ} (w : Eight) (g : List Page) → PagesRead n a img xs k → k < n
+      → Read img (byteAt (a + k * 11)) (byteAt (a + k * 11 + 11)) (44 ∷ 44 ∷ []) (w .first ∷ w .last ∷ [])
+      → (g ≡ pagesOf (eightFields w)) × (length g ≡ 8)
+      → PagesRead n a img (withEight xs (k * 8) g) (k + 1)
+  pages-more {k} w g p h f e =
+      let us = eightFields w in
+      let e11 : (k + 1) * 11 ≡ k * 11 + 11 = omega arith in
+      let e8 : (k + 1) * 8 ≡ k * 8 + 8 = omega arith in
+      let ea : a + (k * 11 + 11) ≡ a + k * 11 + 11 = omega arith in
+      record {
+        within = omega arith;
+        long = simp length-set (p .long);
+        vs = p .vs ++ us;
+        read =
+            rw (e11, e8, ea, times-add (k * 8) 8 pageWidths)
+            (read-append img (byteAt a) (byteAt (a + k * 11)) (byteAt (a + k * 11 + 11)) (times (k * 8) pageWidths) (p .vs)
+            (times 8 pageWidths) us (p .read)
+            (eight-fields img (byteAt (a + k * 11)) (byteAt (a + k * 11 + 11)) w f));
+        same =
+            rw e8
+            (take-with-eight xs g (k * 8) (omega (arith, p .long)) (e .1) ∙ ap₂ (λ (s t : List Page). s ++ t) (p .same) (e .0)
+            ∙ sym (pages-append (k * 8) (p .vs) us (p .read .fit)));
+      }
 
-pub pages-done : (img : List ℕ) (a k : ℕ) (xs : List Page) → a + k * 11 ≤ length img → length xs ≡ k * 8 → PagesRead img a k xs
-    → xs ≡ pagesOf (fieldsAt (times (k * 8) pageWidths) img a (k * 11))
-unfolding total
-pages-done img a k xs h l g =
-    let t : total (times (k * 8) pageWidths) ≡ k * 11 * 8 = omega (arith, total-times (k * 8) pageWidths) in
-    sym (take-all (k * 8) xs (omega arith)) ∙ g .same
-    ∙ ap pagesOf (sym (section-is img a (k * 11) h (byteAt (a + k * 11)) (times (k * 8) pageWidths) (g .vs) t (g .read)))
+  pub pages-done : {k : ℕ} → PagesRead n a img xs k → n ≤ k → a + n * 11 ≤ length img
+      → xs ≡ pagesOf (fieldsAt (times (n * 8) pageWidths) img a (n * 11))
+  unfolding total
+  pages-done {k} p h l =
+      let e : k ≡ n = omega (arith, p .within) in
+      let t : total (times (n * 8) pageWidths) ≡ n * 11 * 8 = omega (arith, total-times (n * 8) pageWidths) in
+      sym (take-all (n * 8) xs (omega (arith, p .long))) ∙ rw e at (p .same)
+      ∙ ap pagesOf (sym (section-is img a (n * 11) l (byteAt (a + n * 11)) (times (n * 8) pageWidths) (p .vs) t (rw e at (p .read))))

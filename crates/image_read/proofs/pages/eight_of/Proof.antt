@@ -8,18 +8,18 @@ use Rattle.image_read.proofs.pages.eight_of.Tie as tie
 
 returns : tie.Need-returns
 returns c =
-    let c1 = c .before in let c2 = c1 .before in let c3 = c2 .before in let c4 = c3 .before in let c5 = c4 .before in
-    let c6 = c5 .before in let c7 = c6 .before in let c8 = c7 .before in (
-      (λ j. c7 .page-of .ensures j
-          ∷ c6 .page-of2 .ensures j
-          ∷ c5 .page-of3 .ensures j
-          ∷ c4 .page-of4 .ensures j
-          ∷ c3 .page-of5 .ensures j
-          ∷ c2 .page-of6 .ensures j
-          ∷ c1 .page-of7 .ensures j
+    let v = c .before in let u = v .before in let t = u .before in let s = t .before in let r = s .before in
+    let q = r .before in let p = q .before in let begun = p .before in (
+      (λ j. p .page-of .ensures j
+          ∷ q .page-of2 .ensures j
+          ∷ r .page-of3 .ensures j
+          ∷ s .page-of4 .ensures j
+          ∷ t .page-of5 .ensures j
+          ∷ u .page-of6 .ensures j
+          ∷ v .page-of7 .ensures j
           ∷ c .page-of8 .ensures j
           ∷ [])
-          ∙ eight-pages (c8 .args .w) (c8 .pre .0) (c8 .pre .1),
+          ∙ eight-pages (begun .args .w) (begun .pre .0) (begun .pre .1),
       refl,
     )
 

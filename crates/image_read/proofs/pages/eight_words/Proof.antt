@@ -7,11 +7,10 @@ use Rattle.image_read.proofs.pages.eight_words.Tie as tie
 
 returns : tie.Need-returns
 returns c =
-    let c1 = c .before in let c2 = c1 .before in let c4 = c2 .before .before in
-    let s = c4 in
-    eight-read (s .args .img .now) (s .args .at) (c2 .load .result) (c1 .load2 .result) (c .load3 .result) (omega arith)
-    (omega (arith, c2 .load .ensures .0)) (omega (arith, c2 .load .ensures .1))
-    (omega (arith, c1 .load2 .ensures .0)) (omega (arith, c1 .load2 .ensures .1))
+    let middle = c .before in let first = middle .before in let s = first .before .before in
+    eight-read (s .args .img .now) (s .args .at) (first .load .result) (middle .load2 .result) (c .load3 .result) (omega arith)
+    (omega (arith, first .load .ensures .0)) (omega (arith, first .load .ensures .1))
+    (omega (arith, middle .load2 .ensures .0)) (omega (arith, middle .load2 .ensures .1))
     (omega (arith, c .load3 .ensures .0)) (omega (arith, c .load3 .ensures .1))
 
 pub eight-words-spec : {M : Type 1} → statement M

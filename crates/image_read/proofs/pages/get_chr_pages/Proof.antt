@@ -1,7 +1,7 @@
 -- `get_chr_pages` meets its contract: eight entries after eight.
-use mathlib.Core.Path.{_≡_, refl}
-use Prim.Native.Nat.{_-_, _≤_}
-use lib.ListN.{length, length-set}
+use mathlib.Core.Path.{refl}
+use Prim.Native.Nat.{_-_}
+use Rattle.image_write.specs.Sections.{chrPagesAt}
 use Rattle.image_read.proofs.pages.Laws.{PagesRead, pages-none, pages-more, pages-done}
 use borrow.Author.Needs.{needs}
 use native.Mathlib.Omega.{arith}
@@ -9,35 +9,26 @@ use Rattle.image_read.proofs.pages.get_chr_pages.Statement.{statement}
 use Rattle.image_read.proofs.pages.get_chr_pages.Tie as tie
 
 abbrev Inv-loop : tie.InvT-loop
-Inv-loop img pages₀ k₀ pages k = (k ≤ 2) × (length pages ≡ 16) × PagesRead img 281 k pages
+Inv-loop img pages₀ k₀ pages k = PagesRead 2 chrPagesAt img pages k
 
 abbrev μ-loop : tie.MeasureT-loop
 μ-loop img pages₀ k₀ pages k = 2 - k
 
 loop-holds : tie.Need-loop-holds Inv-loop μ-loop
-loop-holds c = (omega arith, refl, pages-none (c .before .args .img .now) 281 _)
+loop-holds c = pages-none refl
 
 eight-of-requires : tie.Need-eight-of-requires Inv-loop μ-loop
 eight-of-requires c κs = (c .eight-words .ensures .fit .0, c .eight-words .ensures .fit .1 .0)
 
 loop-again : tie.Need-loop-again Inv-loop μ-loop
 loop-again c =
-    let c8 = c .before .before .before .before .before .before .before .before in let c9 = c8 .before in
-    let c11 = c9 .before .before in let c13 = c11 .before .before in
-    let l = c11 .loop in
-    let w = c9 .eight-words in
-    let g = c8 .eight-of in (
-      omega arith,
-      simp length-set (l .inv .1),
-      pages-more (c13 .args .img .now) 281 (l .k) (w .result) (l .pages) (g .result) (omega arith) (l .inv .2) (w .ensures)
-          (g .ensures .0) (g .ensures .1),
-    )
+    let eight = c .before .before .before .before .before .before .before .before in
+    let words = eight .before in let turn = words .before in
+    pages-more (words .eight-words .result) (eight .eight-of .result) (turn .before .loop .inv) (turn .loop-test .taken)
+    (words .eight-words .ensures) (eight .eight-of .ensures)
 
 returns : tie.Need-returns Inv-loop μ-loop
-returns c =
-    let l = c .before .loop in
-    let e : l .k ≡ 2 = omega arith in
-    pages-done (c .before .before .before .args .img .now) 281 2 (l .pages) (omega arith) (l .inv .1) (rw e at (l .inv .2))
+returns c = pages-done (c .before .loop .inv) (c .loop-test .left) (omega (arith, c .before .before .before .pre))
 
 pub get-chr-pages-spec : {M : Type 1} → statement M
 get-chr-pages-spec =

@@ -1,9 +1,12 @@
 -- `read_memory` meets its contract, part by part.
 use mathlib.Core.Path.{_≡_}
-use Prim.Native.Nat.{_%_}
+use Prim.Native.Nat.{_-_, _%_}
 use native.Mathlib.Nat.{mul-comm}
 use lib.ListN.{take, drop}
 use Rattle.bits.specs.Words.{wordOf}
+use Rattle.limits.specs.Limits.{usedMost}
+use Rattle.image_write.specs.Image.{imageBytes}
+use Rattle.image_write.specs.Sections.{layoutAt}
 use Rattle.image_read.specs.Sections.{memoryAt}
 use Rattle.image_read.proofs.Fields.{layout-at}
 use native.Mathlib.Omega.{arith}
@@ -14,10 +17,10 @@ use Rattle.image_read.proofs.reading.read_memory.Tie as tie
 returns : tie.Need-returns
 unfolding memoryAt
 returns c =
-    let img = c .before .before .before .before .args .img .now in
+    let chr = c .before in let prg = chr .before in let img = prg .before .before .args .img .now in
     let w = c .load .result in
-    let e : w ≡ wordOf (take 4 (drop 303 img)) = omega (arith, c .load .ensures .0) in
-    rw (layout-at img w e, mul-comm 128 (w % 2), c .before .before .get-prg-pages .ensures, c .before .get-chr-pages .ensures)
+    let e : w ≡ wordOf (take (imageBytes - layoutAt) (drop layoutAt img)) = omega (arith, c .load .ensures .0) in
+    rw (layout-at img w e, mul-comm usedMost (w % 2), prg .get-prg-pages .ensures, chr .get-chr-pages .ensures)
 
 pub read-memory-spec : {M : Type 1} → statement M
 read-memory-spec =
@@ -26,5 +29,5 @@ read-memory-spec =
     (λ c κs. search needs)  -- get-prg-pages-requires
     (λ c κs. search needs)  -- get-chr-pages-requires
     (λ c κs. search needs)  -- load-requires
-    (λ c. search needs)  -- mul-t7
+    (λ c. search needs)  -- mul-t8
     returns)

@@ -1,7 +1,9 @@
 -- `read_sound` meets its contract, part by part.
 use mathlib.Core.Path.{_≡_}
+use Prim.Native.Nat.{_-_}
 use lib.ListN.{take, drop}
 use Rattle.bits.specs.Words.{wordOf}
+use Rattle.image_write.specs.Sections.{portAt, levelsAt}
 use Rattle.image_read.specs.Sections.{soundAt}
 use Rattle.image_read.proofs.Fields.{port-at}
 use Rattle.image_read.proofs.Out.{from-bits-ok}
@@ -10,19 +12,20 @@ use borrow.Author.Needs.{needs}
 use Rattle.image_read.proofs.reading.read_sound.Statement.{statement}
 use Rattle.image_read.proofs.reading.read_sound.Tie as tie
 
+abbrev start : tie.After-get-phases → tie.Start
+start c = c .before .before .before .before .before
+
 float-from-bits-out : tie.Need-float-from-bits-out
-float-from-bits-out c =
-    let c5 = c .before .before .before .before .before in
-    from-bits-ok (c5 .args .bits) (c5 .pre .1)
+float-from-bits-out c = from-bits-ok (start c .args .bits) (start c .pre .1)
 
 returns : tie.Need-returns
 unfolding soundAt
 returns c =
-    let c1 = c .before in let c2 = c1 .before in let c3 = c2 .before in let c5 = c3 .before .before in
-    let img = c5 .args .img .now in
-    let w = c2 .load .result in
-    let e : w ≡ wordOf (take 2 (drop 151 img)) = omega (arith, c2 .load .ensures .0) in
-    rw (port-at img w e, c3 .get-ram .ensures, c1 .get-levels .ensures, c .get-phases .ensures)
+    let levels = c .before in let port = levels .before in let ram = port .before in
+    let img = start c .args .img .now in
+    let w = port .load .result in
+    let e : w ≡ wordOf (take (levelsAt - portAt) (drop portAt img)) = omega (arith, port .load .ensures .0) in
+    rw (port-at img w e, ram .get-ram .ensures, levels .get-levels .ensures, c .get-phases .ensures)
 
 pub read-sound-spec : {M : Type 1} → statement M
 read-sound-spec =

@@ -1,46 +1,37 @@
 -- `put_chr_pages` meets its contract: eight entries after eight.
-use mathlib.Core.Path.{_≡_, refl}
-use Prim.Native.Nat.{_-_, _*_, _≤_}
-use lib.ListN.{length}
-use Rattle.image_write.proofs.pages.Laws.{PagesWrote, pages-none, pages-more, pages-all, eight-fit}
+use Prim.Native.Nat.{_-_}
+use Rattle.image_write.specs.Sections.{chrPagesAt}
+use Rattle.image_write.proofs.pages.Laws.{PagesWrote, pages-none, next-fit, pages-more, pages-all}
 use native.Mathlib.Omega.{arith}
 use borrow.Author.Needs.{needs}
 use Rattle.image_write.proofs.pages.put_chr_pages.Statement.{statement}
 use Rattle.image_write.proofs.pages.put_chr_pages.Tie as tie
 
 abbrev Inv-loop : tie.InvT-loop
-Inv-loop img₀ pages k₀ img k = (k ≤ 2) × (length pages ≡ 16) × (length img ≡ length img₀) × PagesWrote img₀ img 281 k pages
+Inv-loop img₀ pages k₀ img k = PagesWrote 2 chrPagesAt img₀ pages img k
 
 abbrev μ-loop : tie.MeasureT-loop
 μ-loop img₀ pages k₀ img k = 2 - k
 
 loop-holds : tie.Need-loop-holds Inv-loop μ-loop
-loop-holds c = (omega arith, search needs, refl, pages-none (c .before .args .img .now) 281 (c .before .args .t2))
+loop-holds c = pages-none (search needs)
+
+-- a turn's start, as its eight entries are read
+abbrev turn : tie.After-put-eight-arg Inv-loop μ-loop → tie.In-loop Inv-loop μ-loop
+turn c = c .before .before .before .before .before .before .before .before .before
 
 put-eight-requires : tie.Need-put-eight-requires Inv-loop μ-loop
 put-eight-requires c κs =
-    let c10 = c .before .before .before .before .before .before .before .before .before .before in let c12 = c10 .before .before in
-    (omega arith, eight-fit (c12 .args .t2) (c10 .loop .k * 8) (omega arith) 16 (omega arith) (c12 .pre .1))
+    let h = turn c .before in
+    (omega (arith, h .loop .inv .same), next-fit (h .loop .inv) (turn c .loop-test .taken) (h .before .before .pre .1))
 
 loop-again : tie.Need-loop-again Inv-loop μ-loop
 loop-again c =
-    let c2 = c .before .before in
-    let c13 = c2 .before .before .before .before .before .before .before .before .before .before .before in
-    let c15 = c13 .before .before in
-    let l = c13 .loop in
-    let q = c2 .put-eight in (
-      omega arith,
-      l .inv .1,
-      omega (arith, q .ensures .len),
-      pages-more (c15 .args .img .now) (l .img) (q .last .0) 281 (l .k) (c15 .args .t2) (omega arith) (l .inv .3) (q .ensures),
-    )
+    let put = c .before .before in let t = turn (put .before) in
+    pages-more _ (t .before .loop .inv) (t .loop-test .taken) (put .put-eight .ensures)
 
 returns : tie.Need-returns Inv-loop μ-loop
-returns c =
-    let l = c .before .loop in
-    let c3 = c .before .before .before in
-    let e : l .k ≡ 2 = omega arith in
-    pages-all (c3 .args .img .now) (l .img) 281 2 (c3 .args .t2) (l .inv .1) (rw e at (l .inv .3))
+returns c = pages-all (c .before .loop .inv) (c .loop-test .left)
 
 pub put-chr-pages-spec : {M : Type 1} → statement M
 put-chr-pages-spec =

@@ -10,22 +10,27 @@ use borrow.Author.Needs.{needs}
 use Rattle.image_write.proofs.pages.put_eight.Statement.{statement}
 use Rattle.image_write.proofs.pages.put_eight.Tie as tie
 
+-- before the first word, and after it was written
+abbrev start : tie.After-put-arg → tie.Start
+start c = c .before .before .before .before .before .before
+
+abbrev first : tie.After-put-arg2 → tie.After-put
+first c = c .before .before .before .before .before .before .before
+
 quad-word-requires : tie.Need-quad-word-requires
 quad-word-requires c κs =
-    let f = c .before .before .before .before .before .before .pre .1 in
+    let f = start c .pre .1 in
     (f 0 (omega arith), f 1 (omega arith), f 2 (omega arith), f 3 (omega arith))
 
 quad-word-requires-2 : tie.Need-quad-word-requires-2
 quad-word-requires-2 c κs =
-    let c9 = c .before .before .before .before .before .before .before .before .before in
-    let f = c9 .before .before .before .before .before .before .pre .1 in
+    let f = start (first c .before .before) .pre .1 in
     (f 4 (omega arith), f 5 (omega arith), f 6 (omega arith), f 7 (omega arith))
 
 put-requires-2 : tie.Need-put-requires-2
 unfolding total
 put-requires-2 c κs =
-    let c8 = c .before .before .before .before .before .before .before .before in
-    let p = c8 .put .ensures in
+    let p = first (c .before) .put .ensures in
     (p .held, (omega arith, c .quad-word2 .ensures .1, omega (arith, p .pos, p .len)))
 
 -- what the type says of the array
@@ -34,13 +39,11 @@ long c = search needs
 
 returns : tie.Need-returns
 returns c =
-    let c2 = c .before .before in let c3 = c2 .before in
-    let c11 = c3 .before .before .before .before .before .before .before .before in let c12 = c11 .before in
-    let c19 = c12 .before .before .before .before .before .before .before in
-    let a = c19 .args in
-    rw (← listed-is unmapped 8 (a .t3) (long c19))
-    (wrote-eight (a .img .now) (c11 .put .last .0) (c2 .put2 .last .0) (a .at) (c11 .put .result) (c2 .put2 .result) _ _ _ _ _ _ _ _
-    (rw (c12 .quad-word .ensures .0) at (c11 .put .ensures)) (rw (c3 .quad-word2 .ensures .0) at (c2 .put2 .ensures)))
+    let last = c .before .before in let word2 = last .before in let put = first (word2 .before) in let word = put .before in
+    let s = start (word .before) in let a = s .args in
+    rw (← listed-is unmapped 8 (a .t3) (long s))
+    (wrote-eight (a .img .now) (put .put .last .0) (last .put2 .last .0) (a .at) (put .put .result) (last .put2 .result) _ _ _ _ _ _ _ _ _ _
+    (word .quad-word .ensures .0) (word2 .quad-word2 .ensures .0) (put .put .ensures) (last .put2 .ensures))
 
 pub put-eight-spec : {M : Type 1} → statement M
 put-eight-spec =

@@ -27,15 +27,15 @@ mul-word c = omega (arith, below-12 (c .before .loop .word) (c .before .loop .i)
 
 add-word : tie.Need-add-word Inv-loop μ-loop
 add-word c =
-    let c2 = c .before .before in
-    omega (arith, below-12 (c2 .loop .word) (c2 .loop .i) (c2 .loop .inv .3) (omega arith))
+    let l = c .before .before .loop in
+    omega (arith, below-12 (l .word) (l .i) (l .inv .3) (omega arith))
 
 loop-again : tie.Need-loop-again Inv-loop μ-loop
 loop-again c =
-    let c2 = c .before .before in let c3 = c2 .before in
-    let l = c2 .loop in
+    let at-test = c .before .before in
+    let l = at-test .loop in
     let b = c .bit-of in
-    let xs = c3 .args .t1 in (
+    let xs = at-test .before .args .t1 in (
       omega arith,
       l .inv .1,
       ap (λ (x : ℕ). l .word * 2 + x) (b .ensures .0)

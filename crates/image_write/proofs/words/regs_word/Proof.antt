@@ -23,11 +23,11 @@ regs-word-spec =
     (λ c. search needs)  -- mul-counter-3
     (λ c. search needs)  -- add-counter-2
     (λ c. search needs)  -- add-counter-3
-    (λ c. search needs)  -- cast-kind
-    (λ c. search needs)  -- mul-kind
+    (λ c. search needs)  -- cast-protect
+    (λ c. search needs)  -- mul-protect
     (λ c κs. search needs)  -- num-requires
-    (λ c. search needs)  -- cast-kind-2
-    (λ c. search needs)  -- add-kind
+    (λ c. search needs)  -- cast-protect-2
+    (λ c. search needs)  -- add-protect
     (λ c. search needs)  -- mul-result
     (λ c. search needs)  -- add-result
     (λ c. search needs)  -- mul-result-2

@@ -25,25 +25,24 @@ loop-holds c = (omega arith, search needs, refl, wrote-none (c .before .args .im
 
 put-requires : tie.Need-put-requires Inv-loop μ-loop
 put-requires c κs =
-    let c2 = c .before .before in let c4 = c2 .before .before in (
-      c2 .loop .inv .3 .held,
+    let at-test = c .before .before in let l = at-test .loop in let s = at-test .before .before in (
+      l .inv .3 .held,
       (
         omega arith,
-        (let f : Fits w8 (getD (c4 .args .t3) (c2 .loop .i) 0) = search needs in f .fits),
-        omega (arith, c2 .loop .inv .3 .pos, total-replicate (c2 .loop .i) 8),
+        (let f : Fits w8 (getD (s .args .t3) (l .i) 0) = search needs in f .fits),
+        omega (arith, l .inv .3 .pos, total-replicate (l .i) 8),
       ),
     )
 
 loop-again : tie.Need-loop-again Inv-loop μ-loop
 loop-again c =
-    let c2 = c .before .before in let c5 = c2 .before .before .before in let c7 = c5 .before .before in
-    let l = c5 .loop in
-    let s = c7 in (
+    let put = c .before .before in let at-test = put .before .before .before in
+    let l = at-test .loop in let s = at-test .before .before in (
       omega arith,
       l .inv .1,
       omega arith,
-      wrote-suc (s .args .img .now) (l .img) (c2 .put .last .0) (s .args .w) (l .c) (c2 .put .result) 8 (s .args .t3) (l .i)
-          (omega arith) (l .inv .3) (c2 .put .ensures),
+      wrote-suc (s .args .img .now) (l .img) (put .put .last .0) (s .args .w) (l .c) (put .put .result) 8 (s .args .t3) (l .i)
+          (omega arith) (l .inv .3) (put .put .ensures),
     )
 
 returns : tie.Need-returns Inv-loop μ-loop

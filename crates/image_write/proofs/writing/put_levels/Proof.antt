@@ -13,6 +13,7 @@ use Rattle.sound.specs.Range.{outputTest}
 use Rattle.limits.proofs.Every.{every-at}
 use lib.Ieee.{nan}
 use Rattle.image_write.specs.Image.{byteAt, levelNum}
+use Rattle.image_write.specs.Sections.{levelsAt, outAt}
 use Rattle.image_write.proofs.Levels.{LevelFacts, level-facts}
 use Rattle.image_write.proofs.Parts.{wrote-to, byte-held}
 use native.Mathlib.Omega.{arith}
@@ -22,14 +23,14 @@ use Rattle.image_write.proofs.writing.put_levels.Tie as tie
 
 abbrev Inv-loop : tie.InvT-loop
 Inv-loop img₀ outs c₀ i₀ img c i =
-    (i ≤ 8) × (length outs ≡ 8) × (length img ≡ length img₀) × Wrote img₀ img (byteAt 153) c (replicate i 12)
+    (i ≤ 8) × (length outs ≡ 8) × (length img ≡ length img₀) × Wrote img₀ img (byteAt levelsAt) c (replicate i 12)
     (take i (map levelNum outs))
 
 abbrev μ-loop : tie.MeasureT-loop
 μ-loop img₀ outs c₀ i₀ img c i = 8 - i
 
 loop-holds : tie.Need-loop-holds Inv-loop μ-loop
-loop-holds c = (omega arith, search needs, refl, wrote-none (c .before .args .img .now) (byteAt 153) (byte-held 153))
+loop-holds c = (omega arith, search needs, refl, wrote-none (c .before .args .img .now) (byteAt levelsAt) (byte-held levelsAt))
 
 -- what the test of the outputs says of output i
 level : (c : tie.Start Inv-loop μ-loop) (i : ℕ) → i < 8 → LevelFacts (getD (c .args .t2) i nan)
@@ -37,40 +38,35 @@ level c i h = level-facts _ (every-at 8 (outputTest (c .args .t2)) (c .pre .1) i
 
 float-to-bits-bits : tie.Need-float-to-bits-bits Inv-loop μ-loop
 float-to-bits-bits c =
-    let c1 = c .before in let c3 = c1 .before .before in
-    level c3 (c1 .loop .i) (omega arith) .out .number
+    let at-test = c .before in level (at-test .before .before) (at-test .loop .i) (omega arith) .out .number
 
 whole-part-requires : tie.Need-whole-part-requires Inv-loop μ-loop
 whole-part-requires c κs =
-    let c2 = c .before .before in let c4 = c2 .before .before in
-    level c4 (c2 .loop .i) (omega arith) .out .bits
+    let at-test = c .before .before in level (at-test .before .before) (at-test .loop .i) (omega arith) .out .bits
 
 put-requires : tie.Need-put-requires Inv-loop μ-loop
 unfolding total
 put-requires c κs =
-    let c3 = c .before .before .before in let c5 = c3 .before .before in
-    let l = c3 .loop in (
+    let at-test = c .before .before .before in let l = at-test .loop in let s = at-test .before .before in (
       l .inv .3 .held,
       (
         omega arith,
-        omega (arith, level c5 (l .i) (omega arith) .small, c .whole-part .ensures .0),
+        omega (arith, level s (l .i) (omega arith) .small, c .whole-part .ensures .0),
         omega (arith, l .inv .3 .pos, total-replicate (l .i) 12),
       ),
     )
 
 loop-again : tie.Need-loop-again Inv-loop μ-loop
 loop-again c =
-    let c2 = c .before .before in let c3 = c2 .before in let c6 = c3 .before .before .before in
-    let c8 = c6 .before .before in
-    let l = c6 .loop in
-    let s = c8 in
+    let put = c .before .before in let part = put .before in let at-test = part .before .before .before in
+    let l = at-test .loop in let s = at-test .before .before in
     let xs = s .args .t2 in (
       omega arith,
       l .inv .1,
       omega arith,
-      wrote-suc (s .args .img .now) (l .img) (c2 .put .last .0) (byteAt 153) (l .c) (c2 .put .result) 12 (map levelNum xs) (l .i)
+      wrote-suc (s .args .img .now) (l .img) (put .put .last .0) (byteAt levelsAt) (l .c) (put .put .result) 12 (map levelNum xs) (l .i)
           (rw length-map (omega arith)) (l .inv .3)
-          (rw (getD-map levelNum xs (l .i) nan 0 (omega arith), ← c3 .whole-part .ensures .0) (c2 .put .ensures)),
+          (rw (getD-map levelNum xs (l .i) nan 0 (omega arith), ← part .whole-part .ensures .0) (put .put .ensures)),
     )
 
 returns : tie.Need-returns Inv-loop μ-loop
@@ -79,7 +75,7 @@ returns c =
     let xs = c .before .before .before .args .t2 in
     let l = c .before .loop in
     let e : l .i ≡ 8 = omega arith in
-    wrote-to _ _ 153 165 _ _ _ (omega arith) (rw (e, take-all 8 (map levelNum xs) (rw length-map (omega arith))) at (l .inv .3))
+    wrote-to _ _ levelsAt outAt _ _ _ (omega arith) (rw (e, take-all 8 (map levelNum xs) (rw length-map (omega arith))) at (l .inv .3))
 
 pub put-levels-spec : {M : Type 1} → statement M
 put-levels-spec =

@@ -3,8 +3,10 @@ use mathlib.Core.Path.{_≡_, refl}
 use lib.ListN.{length, getD}
 use Rattle.bits.specs.Fields.{total}
 use Rattle.sound.specs.Range.{phaseTest}
+use Rattle.limits.specs.Limits.{phaseLimit}
 use Rattle.limits.proofs.Every.{every-at}
 use borrow.Author.Tests.{ltb-true}
+use Rattle.image_write.specs.Sections.{phasesAt, prgPagesAt}
 use Rattle.image_write.proofs.Parts.{wrote-to, byte-held, fit-replicate}
 use native.Mathlib.Omega.{arith}
 use borrow.Author.Needs.{needs}
@@ -13,14 +15,13 @@ use Rattle.image_write.proofs.writing.put_phases.Tie as tie
 
 put-run-requires : tie.Need-put-run-requires
 put-run-requires c κs =
-    let c3 = c .before .before .before in
-    let xs = c3 .args .t2 in
+    let s = c .before .before .before in let xs = s .args .t2 in
     let l : length xs ≡ 8 = search needs in (
-      byte-held 169,
+      byte-held phasesAt,
       (
         omega arith,
         fit-replicate (length xs) 24 xs refl
-            (λ i h. ltb-true (getD xs i 0) 16777216 (every-at 8 (phaseTest xs) (c3 .pre .1) i (omega arith))),
+            (λ i h. ltb-true (getD xs i 0) phaseLimit (every-at 8 (phaseTest xs) (s .pre .1) i (omega arith))),
         omega arith,
       ),
     )
@@ -28,10 +29,10 @@ put-run-requires c κs =
 returns : tie.Need-returns
 unfolding total
 returns c =
-    let c2 = c .before .before in let c6 = c2 .before .before .before .before in
-    let xs = c6 .args .t2 in
+    let put = c .before .before in let lent = put .before in
+    let xs = lent .before .before .before .args .t2 in
     let l : length xs ≡ 8 = search needs in
-    wrote-to _ _ 169 193 _ _ _ (omega arith) (rw l at (c2 .put-run .ensures))
+    wrote-to _ _ phasesAt prgPagesAt _ _ _ (omega arith) (rw l at (put .put-run .ensures))
 
 pub put-phases-spec : {M : Type 1} → statement M
 put-phases-spec = tie.close (tie.spec (λ c. search needs) put-run-requires (λ c. search needs) returns)

@@ -1,11 +1,13 @@
 -- `put_sound` meets its contract: its parts stand one behind the other.
-use mathlib.Core.Path.{_≡_, refl, sym, _∙_}
-use mathlib.Core.List.{[], _∷_, map}
-use lib.ListN.{length, replicate, length-map}
-use Rattle.bits.specs.Fields.{total, bit}
-use Rattle.bits.proofs.cursor.Laws.{wrote-word}
-use Rattle.image_write.specs.Image.{levelNum}
-use Rattle.image_write.proofs.Parts.{wrote-to, wrote-part, wrote-done}
+use mathlib.Core.Path.{refl, sym, _∙_}
+use mathlib.Core.List.{[]}
+use lib.ListN.{length-map}
+use Rattle.bits.specs.Fields.{total}
+use Rattle.sound.specs.Range.{Typed}
+use Rattle.sound.proofs.audio.Typed.{typed}
+use Rattle.image_write.specs.Image.{part, soundWidths, soundFields, levelNum}
+use Rattle.image_write.specs.Sections.{portAt, levelsAt, prgPagesAt}
+use Rattle.image_write.proofs.Parts.{wrote-to, wrote-fields, wrote-part, wrote-end, byte-held}
 use Rattle.image_write.proofs.Ranges.{SoundFacts, sound-facts}
 use native.Mathlib.Omega.{arith}
 use borrow.Author.Needs.{needs}
@@ -16,59 +18,55 @@ use Rattle.image_write.proofs.writing.put_sound.Tie as tie
 facts : (c : tie.Start) → SoundFacts (c .args .audio)
 facts c = sound-facts (c .args .audio) (c .pre .1)
 
+-- and what its types say
+types : (c : tie.Start) → Typed (c .args .audio)
+types c = typed _ _ (c .good .1 .0)
+
+-- the places after the port, the outputs and `out` were written, and before all
+abbrev start : tie.After-slice-known2 → tie.Start
+start c = c .before .before .before .before .before .before
+
+abbrev port : tie.After-put-levels-arg → tie.After-put
+port c = c .before .before .before .before
+
+abbrev levels : tie.After-put-out-arg → tie.After-put-levels
+levels c = c .before .before .before
+
+abbrev out : tie.After-put-phases-arg → tie.After-put-out
+out c = c .before .before .before .before
+
+abbrev begun : tie.After-put-levels-arg → tie.Start
+begun c = start (port c .before .before .before)
+
 port-word-requires : tie.Need-port-word-requires
-port-word-requires c κs = let f = facts (c .before .before .before .before .before .before) in (f .addr, f .counter, f .channel)
+port-word-requires c κs = let f = facts (start c) in (f .addr, f .counter, f .channel)
 
 put-levels-requires : tie.Need-put-levels-requires
-put-levels-requires c κs =
-    let c7 = c .before .before .before .before .before .before .before in
-    let c13 = c7 .before .before .before .before .before .before in
-    (search needs, facts c13 .outputs)
+put-levels-requires c κs = (search needs, facts (begun c) .outputs)
 
 put-out-requires : tie.Need-put-out-requires
-put-out-requires c κs =
-    let c9 = c .before .before .before .before .before .before .before .before .before in
-    let c17 = c9 .before .before .before .before .before .before .before .before in
-    (search needs, facts c17 .out)
+put-out-requires c κs = (search needs, facts (begun (levels c .before)) .out)
 
 put-phases-requires : tie.Need-put-phases-requires
-put-phases-requires c κs =
-    let c9 = c .before .before .before .before .before .before .before .before .before in
-    let c18 = c9 .before .before .before .before .before .before .before .before .before in
-    let c22 = c18 .before .before .before .before in
-    (search needs, facts c22 .phases)
-
--- what the types say of the arrays
-long-ram : (c : tie.Start) → length (c .args .audio .ram) ≡ 128
-long-ram c = search needs
-
-long-channel-out : (c : tie.Start) → length (c .args .audio .«channel_out») ≡ 8
-long-channel-out c = search needs
-
-long-phase-ext : (c : tie.Start) → length (c .args .audio .«phase_ext») ≡ 8
-long-phase-ext c = search needs
+put-phases-requires c κs = (search needs, facts (begun (levels (out c .before) .before)) .phases)
 
 returns : tie.Need-returns
 unfolding total
 returns c =
-    let c2 = c .before .before in let c7 = c2 .before .before .before .before .before in
-    let c11 = c7 .before .before .before .before in let c16 = c11 .before .before .before .before .before in
-    let c18 = c16 .before .before in let c21 = c18 .before .before .before in
-    let c25 = c21 .before .before .before .before in
-    let a = c25 .args .audio in
-    let lr : length (a .ram) ≡ 128 = long-ram c25 in
-    let lo : length (a .«channel_out») ≡ 8 = long-channel-out c25 in
-    let lp : length (a .«phase_ext») ≡ 8 = long-phase-ext c25 in
-    let port = a .addr ∷ bit (a .«auto_increment») ∷ bit (a .disabled) ∷ a .«update_counter» ∷ a .«current_channel» ∷ [] in
-    wrote-part _ _ _ _ _ _ (replicate 128 8) (a .ram) _ _ (sym lr) (c21 .put-ram .ensures)
-    (wrote-part _ _ _ _ _ _ (7 ∷ 1 ∷ 1 ∷ 4 ∷ 3 ∷ []) port _ _ refl
-    (wrote-to _ _ 151 153 _ _ _ (omega arith)
-    (wrote-word _ _ _ _ (7 ∷ 1 ∷ 1 ∷ 4 ∷ 3 ∷ []) port (rw (c18 .port-word .ensures .0) at (c16 .put .ensures))))
-    (wrote-part _ _ _ _ _ _ (replicate 8 12) (map levelNum (a .«channel_out»)) _ _
-    (sym (length-map (a .«channel_out») levelNum ∙ lo)) (c11 .put-levels .ensures)
-    (wrote-part _ _ _ _ _ _ _ _ _ _ refl (c7 .put-out .ensures)
-    (wrote-part _ _ _ _ _ _ (replicate 8 24) (a .«phase_ext») [] [] (sym lp) (c2 .put-phases .ensures)
-    (wrote-done _ 193)))))
+    let last = c .before .before in let outs = out (last .before) in let levelled = levels (outs .before) in
+    let ported = port (levelled .before) in let word = ported .before .before in let ram = word .before .before .before in
+    let s = begun (levelled .before) in
+    let a = s .args .audio in
+    let f = soundFields a in
+    wrote-part _ _ _ _ _ _ (part soundWidths 0) (part f 0) _ _ (sym (types s .«ram-length»)) (ram .put-ram .ensures)
+    (wrote-part _ _ _ _ _ _ (part soundWidths 1) (part f 1) _ _ refl
+    (wrote-to _ _ portAt levelsAt _ _ _ (omega arith)
+    (wrote-fields (part soundWidths 1) (part f 1) (word .port-word .ensures .0) (ported .put .ensures)))
+    (wrote-part _ _ _ _ _ _ (part soundWidths 2) (part f 2) _ _
+    (sym (length-map (a .«channel_out») levelNum ∙ types s .«outputs-length»)) (levelled .put-levels .ensures)
+    (wrote-part _ _ _ _ _ _ (part soundWidths 3) (part f 3) _ _ refl (outs .put-out .ensures)
+    (wrote-part _ _ _ _ _ _ (part soundWidths 4) (part f 4) [] [] (sym (types s .«phases-length»)) (last .put-phases .ensures)
+    (wrote-end _ _ (byte-held prgPagesAt))))))
 
 pub put-sound-spec : {M : Type 1} → statement M
 put-sound-spec =

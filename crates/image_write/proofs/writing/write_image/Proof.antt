@@ -13,9 +13,9 @@ put-state-requires c κs = (search needs, sym (c .before .before .in-range .ensu
 
 returns-2 : tie.Need-returns-2
 returns-2 c =
-    let c2 = c .before .before in let c4 = c2 .before .before in let c5 = c4 .before in let c6 = c5 .before in
-    let a = accepted _ _ (c6 .if1 .left) (sym (c5 .in-range .ensures) ∙ c4 .if2 .taken) in
-    (a .0, c2 .put-state .ensures ∙ a .1)
+    let put = c .before .before in let good = put .before .before in let tested = good .before in let long = tested .before in
+    let a = accepted _ _ (long .if1 .left) (sym (tested .in-range .ensures) ∙ good .if2 .taken) in
+    (a .0, put .put-state .ensures ∙ a .1)
 
 returns-3 : tie.Need-returns-3
 returns-3 c = refused-state _ _ (c .before .before .if1 .left) (sym (c .before .in-range .ensures) ∙ c .if2 .left)

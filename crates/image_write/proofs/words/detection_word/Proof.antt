@@ -1,16 +1,16 @@
--- `kind_word` meets its contract: the fields stand one above the other.
+-- `detection_word` meets its contract: the fields stand one above the other.
 use Rattle.bits.specs.Fields.{total, pack}
 use native.Mathlib.Omega.{arith}
 use borrow.Author.Needs.{needs}
-use Rattle.image_write.proofs.words.kind_word.Statement.{statement}
-use Rattle.image_write.proofs.words.kind_word.Tie as tie
+use Rattle.image_write.proofs.words.detection_word.Statement.{statement}
+use Rattle.image_write.proofs.words.detection_word.Tie as tie
 
 returns : tie.Need-returns
 unfolding total pack
 returns c = omega arith
 
-pub kind-word-spec : {M : Type 1} → statement M
-kind-word-spec =
+pub detection-word-spec : {M : Type 1} → statement M
+detection-word-spec =
     tie.close
     (tie.spec
     (λ c κs. search needs)  -- bit-of-requires
