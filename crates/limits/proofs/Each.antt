@@ -1,7 +1,13 @@
--- What holds of an element holds of what is read there after a store of a value that it holds of, and of each of equal ones.
+-- What holds of two values holds of a choice of them; what holds of an element holds of what is read there after a store of a value that it holds of, and
+-- of each of equal ones.
 use Prim.Native.Nat.{ℕ, zero, suc, _<_}
+use mathlib.Core.Bool.{Bool, true, false, cond}
 use mathlib.Core.List.{List, [], _∷_}
 use lib.ListN.{getD, set, replicate}
+
+pub cond-holds : {A : Type 0} (P : A → Type 0) (t : Bool) (a b : A) → P a → P b → P (cond t a b)
+cond-holds P true a b p q = p
+cond-holds P false a b p q = q
 
 pub each-set : {A : Type 0} (P : A → Type 0) (d : A) (l : List A) (k : ℕ) (v : A) → P v → (i : ℕ) → P (getD l i d)
     → P (getD (set l k v) i d)

@@ -5,7 +5,7 @@ use borrow.Author.Tests.{eqb-true}
 use lib.Dec.{eqb}
 use lib.ListN.{length}
 use Rattle.memory.specs.Layout.{layoutOf, arenaLen}
-use Rattle.limits.proofs.Every.{was-true}
+use Rattle.limits.proofs.Every.{not-false}
 use Rattle.call_load.specs.Cartridge.{loadAnswer, loadArena}
 use Rattle.call_refusals.specs.Refusals.{loadChecks}
 use Rattle.call_refusals.proofs.Laws.{accepted-none}
@@ -16,7 +16,7 @@ long l =
     let h = accepted-none (loadChecks (l .mapper) (l .sizes) (length (l .arena)))
     (omega arith, (omega arith, (omega arith, (omega arith, tt)))) (l .accepted) in
     eqb-true (length (l .arena)) (arenaLen (layoutOf (l .sizes)))
-    (was-true (eqb (length (l .arena)) (arenaLen (layoutOf (l .sizes)))) (h .1 .1 .1 .0))
+    (not-false (eqb (length (l .arena)) (arenaLen (layoutOf (l .sizes)))) (h .1 .1 .1 .0))
 
 pub load-starts : (l : Loaded) → loaded l ≡ zeroed l
 unfolding loadAnswer loadArena

@@ -10,6 +10,7 @@ use lib.Ieee.{Float}
 use Rattle.cut.specs.Calls.{Call, run, other}
 use Rattle.cut.specs.Machine.{Answered, plainly}
 use Rattle.cut.specs.Demand3.{Untouched}
+use Rattle.limits.proofs.Each.{cond-holds}
 use Rattle.board_chip.specs.declared.namco163.Board.{Board}
 use Rattle.board_chip.specs.declared.namco163.Board.the-variants.{Unknown, Namco163 as Is163, Namco175, Namco340}
 use Rattle.board_chip.specs.declared.namco163.Namco163.{Namco163}
@@ -34,8 +35,7 @@ part : Namco163 → ℕ × Bool
 part n = (n .regs .«irq_counter», n .regs .«irq_pending»)
 
 either : (t : Bool) (a b : Namco163) (p : ℕ × Bool) → part a ≡ p → part b ≡ p → part (cond t a b) ≡ p
-either true a b p h k = h
-either false a b p h k = k
+either t a b p = cond-holds (λ (n : Namco163). part n ≡ p) t a b
 
 maybe : (n : Namco163) (b : Board) → part (maybeSetBoard n b) ≡ part n
 unfolding maybeSetBoard part

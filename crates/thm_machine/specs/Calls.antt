@@ -1,8 +1,11 @@
 -- The calls of a list other than runs, with their arguments: "The calls after a load are CPU read, peek and write, CHR read and write, fill, `region_peek`,
 -- `region_write`, `sram`, run, reset, battery sync and restore, and image writing."
-use Prim.Native.Nat.{ℕ}
+use Prim.Native.Nat.{ℕ, _<_}
 use mathlib.Core.List.{List}
+use lib.Ieee.{Float}
+use Rattle.cut.specs.Calls.{Call, run, other}
 use Rattle.memory.specs.declared.layout.Src.{Src}
+use Rattle.memory.specs.Range.{Bytes}
 use Rattle.board_state.specs.declared.State.{State}
 use Rattle.memory.specs.declared.changes.Changed.{Changed}
 
@@ -26,6 +29,26 @@ pub data Other : Type 0 where
   syncBattery : Other
   restoreBattery : Other
   writeImage : List ℕ → Other
+
+-- what the types of the arguments say: a value is a byte, and so is each lent one
+abbrev pub ArgTyped : Other → Type 0
+ArgTyped (cpuRead addr) = Unit {0}
+ArgTyped (cpuPeek addr) = Unit {0}
+ArgTyped (cpuWrite addr v) = v < 256
+ArgTyped (chrRead addr) = Unit {0}
+ArgTyped (chrWrite addr v) = v < 256
+ArgTyped (fill src bytes) = Bytes bytes
+ArgTyped (regionPeek src offset) = Unit {0}
+ArgTyped (regionWrite src offset v) = v < 256
+ArgTyped sram = Unit {0}
+ArgTyped (reset kind) = Unit {0}
+ArgTyped syncBattery = Unit {0}
+ArgTyped restoreBattery = Unit {0}
+ArgTyped (writeImage buffer) = Unit {0}
+
+abbrev pub CallTyped : Call Float Other → Type 0
+CallTyped (run n lent) = Unit {0}
+CallTyped (other a) = ArgTyped a
 
 -- the answer of an accepted call besides its number: a byte, the changed pages, a start and a length, the written image bytes, or nothing
 pub data Answer : Type 0 where

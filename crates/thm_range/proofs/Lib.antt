@@ -1,11 +1,8 @@
--- What every call keeps, layer by layer, and its refusals.
-pub mod Chip
-pub mod Banking
-pub mod State
+-- What every call keeps, and its refusals. Lists has the theorem on lists of calls.
 pub mod Decided
 pub mod Refused
 pub mod Calls
+pub mod Lists
 pub mod Runs
-pub mod Types
 pub mod Images
 pub mod Numbers

@@ -13,7 +13,7 @@ use Rattle.memory.specs.Layout.{withinLimits, layoutOf, arenaLen}
 use Rattle.memory.specs.Memory.{regionIn}
 use Rattle.board_state.specs.declared.State.{State}
 use Rattle.board_state.specs.State.{mapperOk, inRange}
-use Rattle.limits.proofs.Every.{and-left, and-right, both, was-true, was-false}
+use Rattle.limits.proofs.Every.{and-left, and-right, both, not-false, not-true}
 use Rattle.call_refusals.specs.Refusals.{Check, firstOf, stateCheck, kindCheck, mapperCheck, sizesCheck, reserveCheck, arenaCheck, addressCheck, fillCheck, batteryCheck, resetChecks, arenaChecks, cpuChecks, fillChecks, batteryChecks, loadChecks}
 use Rattle.thm_range.proofs.Decided.{Decided, reset-decided, cpu-decided, fill-decided, battery-decided, load-decided}
 
@@ -29,13 +29,13 @@ pub refused-2 : (s : State) (rest : List Check) → Decided (stateCheck s ∷ re
     → (firstOf (stateCheck s ∷ rest) ≡ 2) ↔ (inRange s ≡ false)
 refused-2 s rest d =
     let r = d .refused [] rest (stateCheck s) refl in
-    ((λ e. was-false (inRange s) (r .0 e .1)), (λ h. r .1 (tt, rw h)))
+    ((λ e. not-true (inRange s) (r .0 e .1)), (λ h. r .1 (tt, rw h)))
 
 -- "3. A host reset kind is neither 0 (soft) nor 1 (hard)."
 pub refused-3 : (s : State) (kind : ℕ) → (firstOf (resetChecks s kind) ≡ 3) ↔ ((inRange s ≡ true) × (1 < kind))
 refused-3 s kind =
     let r = reset-decided s kind .refused (stateCheck s ∷ []) [] (kindCheck kind) refl in (
-      (λ e. let h = r .0 e in (was-true (inRange s) (h .0 .0), ltb-true 1 kind (h .1))),
+      (λ e. let h = r .0 e in (not-false (inRange s) (h .0 .0), ltb-true 1 kind (h .1))),
       (λ h. r .1 ((rw (h .0), tt), lt-ltb 1 kind (h .1))),
     )
 
@@ -44,7 +44,7 @@ pub refused-4 : (mapper : ℕ) (sizes : MemoryLayout) (len : ℕ) → (firstOf (
 refused-4 mapper sizes len =
     let r = load-decided mapper sizes len .refused []
     (sizesCheck sizes ∷ reserveCheck mapper sizes ∷ arenaCheck (arenaLen (layoutOf sizes)) len ∷ []) (mapperCheck mapper) refl in
-    ((λ e. was-false (mapperOk mapper) (r .0 e .1)), (λ h. r .1 (tt, fails (mapperOk mapper) h)))
+    ((λ e. not-true (mapperOk mapper) (r .0 e .1)), (λ h. r .1 (tt, fails (mapperOk mapper) h)))
 
 -- "5. A layout size is above its limit."
 pub refused-5 : (mapper : ℕ) (sizes : MemoryLayout) (len : ℕ)
@@ -52,7 +52,7 @@ pub refused-5 : (mapper : ℕ) (sizes : MemoryLayout) (len : ℕ)
 refused-5 mapper sizes len =
     let r = load-decided mapper sizes len .refused (mapperCheck mapper ∷ [])
     (reserveCheck mapper sizes ∷ arenaCheck (arenaLen (layoutOf sizes)) len ∷ []) (sizesCheck sizes) refl in (
-      (λ e. let h = r .0 e in (was-true (mapperOk mapper) (h .0 .0), was-false (withinLimits sizes) (h .1))),
+      (λ e. let h = r .0 e in (not-false (mapperOk mapper) (h .0 .0), not-true (withinLimits sizes) (h .1))),
       (λ h. r .1 ((passes (mapperOk mapper) (h .0), tt), rw (h .1))),
     )
 
@@ -64,7 +64,7 @@ refused-6 mapper sizes len =
     (arenaCheck (arenaLen (layoutOf sizes)) len ∷ []) (reserveCheck mapper sizes) refl in (
       (λ e.
           let h = r .0 e in (
-            was-true (withinLimits sizes) (h .0 .1 .0),
+            not-false (withinLimits sizes) (h .0 .1 .0),
             (
               eqb-true mapper 19 (and-left (eqb mapper 19) _ (h .1)),
               eqb-true (sizes .«battery_ext») 0 (and-right (eqb mapper 19) _ (h .1)),
@@ -84,7 +84,7 @@ pub refused-7 : (s : State) (len : ℕ) (rest : List Check)
 refused-7 s len rest d =
     let long = arenaLen (s .memory .layout) in
     let r = d .refused (stateCheck s ∷ []) rest (arenaCheck long len) refl in (
-      (λ e. let h = r .0 e in (was-true (inRange s) (h .0 .0), eqb-false len long (was-false (eqb len long) (h .1)))),
+      (λ e. let h = r .0 e in (not-false (inRange s) (h .0 .0), eqb-false len long (not-true (eqb len long) (h .1)))),
       (λ h. r .1 ((rw (h .0), tt), rw (ne-eqb len long (h .1)))),
     )
 
@@ -99,8 +99,8 @@ load-refused-7 mapper sizes len =
     (arenaCheck long len) refl in (
       (λ e.
           let h = r .0 e in (
-            (was-true (mapperOk mapper) (h .0 .0), (was-true (withinLimits sizes) (h .0 .1 .0), h .0 .1 .1 .0)),
-            eqb-false len long (was-false (eqb len long) (h .1)),
+            (not-false (mapperOk mapper) (h .0 .0), (not-false (withinLimits sizes) (h .0 .1 .0), h .0 .1 .1 .0)),
+            eqb-false len long (not-true (eqb len long) (h .1)),
           )),
       (λ h. r .1 ((passes (mapperOk mapper) (h .0 .0), (rw (h .0 .1 .0), (h .0 .1 .1, tt))), rw (ne-eqb len long (h .1)))),
     )
@@ -116,7 +116,7 @@ module _ (s : State) (len : ℕ) where
   behind c d =
       let long = arenaLen (s .memory .layout) in
       let r = d .refused (arenaChecks s len) [] c refl in (
-        (λ e. let h = r .0 e in ((was-true (inRange s) (h .0 .0), eqb-true len long (was-true (eqb len long) (h .0 .1 .0))), h .1)),
+        (λ e. let h = r .0 e in ((not-false (inRange s) (h .0 .0), eqb-true len long (not-false (eqb len long) (h .0 .1 .0))), h .1)),
         (λ h. r .1 ((rw (h .0 .0), (rw (eq-eqb len long (h .0 .1)), tt)), h .1)),
       )
 

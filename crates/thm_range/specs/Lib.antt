@@ -1,2 +1,2 @@
--- What the types of a state say.
-pub mod Typed
+-- A known state and its arena.
+pub mod Fit

@@ -1,7 +1,7 @@
--- Every mapping step gives entries on page starts inside the arena with bit 30 clear, and tables as long as before. Assumes nothing.
+-- Every mapping step gives entries on page starts inside the arena with bit 30 clear, and keeps what the types say of the tables.
 use Prim.Native.Nat.{ℕ, zero, suc, _+_, _*_, _/_, _%_, _^_, _≤_, _<_}
 use mathlib.Core.Path.{_≡_, refl, ap, ap₂, _∙_}
-use mathlib.Core.Bool.{Bool, true}
+use mathlib.Core.Bool.{Bool, true, false, cond}
 use mathlib.Core.List.{List}
 use mathlib.Core.Logic.{_⊎_, inl, inr}
 use native.Mathlib.Nat.{mod-lt, mul-assoc, eq-zero-or-pos}
@@ -9,7 +9,8 @@ use native.Mathlib.Omega.{arith}
 use borrow.Author.Tests.{eq-eqb, ne-eqb}
 use lib.Arith.{mod-mul}
 use lib.IntN.{ℤ}
-use lib.ListN.{length, getD, replicate, getD-replicate}
+use lib.Dec.{eqb}
+use lib.ListN.{getD, replicate, getD-replicate}
 use lib.Seq.{getD-set-other}
 use Rattle.memory.specs.declared.Memory.{Memory}
 use Rattle.memory.specs.declared.layout.Layout.{Layout}
@@ -22,14 +23,14 @@ use Rattle.memory.specs.declared.mirroring.Mirroring.the-variants.{Horizontal}
 use Rattle.memory.specs.declared.page.Page.{Page}
 use Rattle.memory.specs.Layout.{withinLimits, layoutOf, firstPage, arenaPages, pagesIn, regionLen, regionOf}
 use Rattle.memory.specs.Memory.{regionIn, withPrgPages, withChrPages}
-use Rattle.memory.specs.Range.{GoodLayout, EntryIn, TableIn, Ranged}
+use Rattle.memory.specs.Range.{GoodLayout, EntryIn, TableIn, Ranged, MemoryTyped}
 use Rattle.memory.specs.Page.{unmapped, pageOf, offsetOf}
 use Rattle.memory_map.specs.Mirroring.{ciramBanks, nametablePage, mirrorPages, setMirroring}
 use Rattle.memory_map.specs.New.{unmappedMemory, newMemory}
 use Rattle.memory_map.specs.Windows.{withFlag, banksOf, modulo, windowBase, regionPage, eachPage, showPages, mapPages, unmapPages}
 use Rattle.memory_map.specs.Windows.{setWritable, mapPrg, mapChr, unmapPrg, setPrgWritable}
 use Rattle.memory.proofs.Laws.Layout.{region-ends, pages-le, layout-good}
-use Rattle.limits.proofs.Each.{each-set}
+use Rattle.limits.proofs.Each.{each-set, each-replicate}
 use Rattle.memory.proofs.Laws.Page.{offset-page, bit-page}
 use Rattle.memory_map.proofs.Laws.Windows.{length-each}
 
@@ -202,33 +203,78 @@ ranged-new s e =
     })
     Horizontal
 
--- ---- lengths of tables stay: each step changes one table, by `eachPage`
+-- ---- what the types say stays: each step changes one table, by `eachPage`
 
-pub record Lengths (m : Memory) : Type 0 where
-  pub prg : length (m .«prg_pages») ≡ 64
-  pub chr : length (m .«chr_pages») ≡ 16
+page-word : (o : ℕ) (w : Bool) → pageOf o w .0 < 2 ^ 32
+page-word o true = omega arith
+page-word o false = omega arith
 
-module _ (m : Memory) (q : Lengths m) where
-  pub lengths-map-prg : (addr s : ℕ) (b : ℤ) (src : Src) → Lengths (mapPrg m addr s b src)
+region-word : (r : Region) (o : ℕ) → regionPage r o .0 < 2 ^ 32
+unfolding regionPage
+region-word r o = go (eqb (r .len) 0)
+  where
+    go : (t : Bool) → cond t unmapped (pageOf (r .start + o % r .len) (r .writable)) .0 < 2 ^ 32
+    go true = omega arith
+    go false = page-word (r .start + o % r .len) (r .writable)
+
+-- entries made of 32 bits keep a table of them
+each-words : (k : ℕ) (f : ℕ → Page → Page) → ((i : ℕ) (p : Page) → f i p .0 < 2 ^ 32) → (slot n : ℕ) (t : List Page)
+    → ((j : ℕ) → getD t j unmapped .0 < 2 ^ 32) → (j : ℕ) → getD (eachPage k f slot n t) j unmapped .0 < 2 ^ 32
+unfolding eachPage
+each-words k f good slot zero t h j = h j
+each-words k f good slot (suc n) t h j =
+    each-set (λ (p : Page). p .0 < 2 ^ 32) unmapped (eachPage k f slot n t) ((slot + n) % k) _ (good n _) j
+    (each-words k f good slot n t h j)
+
+module _ (m : Memory) (q : MemoryTyped m) where
+  prg-typed : (f : ℕ → Page → Page) → ((i : ℕ) (p : Page) → f i p .0 < 2 ^ 32) → (slot n : ℕ)
+      → MemoryTyped (withPrgPages m (eachPage 64 f slot n (m .«prg_pages»)))
+  prg-typed f good slot n =
+      record {
+        prg = length-each 64 f slot n (m .«prg_pages») ∙ q .prg;
+        chr = q .chr;
+        «prg-words» = each-words 64 f good slot n (m .«prg_pages») (q .«prg-words»);
+        «chr-words» = q .«chr-words»;
+      }
+
+  chr-typed : (f : ℕ → Page → Page) → ((i : ℕ) (p : Page) → f i p .0 < 2 ^ 32) → (slot n : ℕ)
+      → MemoryTyped (withChrPages m (eachPage 16 f slot n (m .«chr_pages»)))
+  chr-typed f good slot n =
+      record {
+        prg = q .prg;
+        chr = length-each 16 f slot n (m .«chr_pages») ∙ q .chr;
+        «prg-words» = q .«prg-words»;
+        «chr-words» = each-words 16 f good slot n (m .«chr_pages») (q .«chr-words»);
+      }
+
+  pub typed-map-prg : (addr s : ℕ) (b : ℤ) (src : Src) → MemoryTyped (mapPrg m addr s b src)
   unfolding mapPrg mapPages showPages
-  lengths-map-prg addr s b src = record { prg = length-each 64 _ (addr / 1024) (s / 1024) (m .«prg_pages») ∙ q .prg; chr = q .chr }
+  typed-map-prg addr s b src = prg-typed _ (λ i p. region-word _ _) (addr / 1024) (s / 1024)
 
-  pub lengths-map-chr : (addr s : ℕ) (b : ℤ) (src : Src) → Lengths (mapChr m addr s b src)
+  pub typed-map-chr : (addr s : ℕ) (b : ℤ) (src : Src) → MemoryTyped (mapChr m addr s b src)
   unfolding mapChr mapPages showPages
-  lengths-map-chr addr s b src = record { prg = q .prg; chr = length-each 16 _ (addr / 1024) (s / 1024) (m .«chr_pages») ∙ q .chr }
+  typed-map-chr addr s b src = chr-typed _ (λ i p. region-word _ _) (addr / 1024) (s / 1024)
 
-  pub lengths-unmap-prg : (addr s : ℕ) → Lengths (unmapPrg m addr s)
+  pub typed-unmap-prg : (addr s : ℕ) → MemoryTyped (unmapPrg m addr s)
   unfolding unmapPrg unmapPages
-  lengths-unmap-prg addr s = record { prg = length-each 64 _ (addr / 1024) (s / 1024) (m .«prg_pages») ∙ q .prg; chr = q .chr }
+  typed-unmap-prg addr s = prg-typed _ (λ i p. omega arith) (addr / 1024) (s / 1024)
 
-  pub lengths-set-writable : (addr s : ℕ) (w : Bool) → Lengths (setPrgWritable m addr s w)
+  pub typed-set-writable : (addr s : ℕ) (w : Bool) → MemoryTyped (setPrgWritable m addr s w)
   unfolding setPrgWritable setWritable
-  lengths-set-writable addr s w = record { prg = length-each 64 _ (addr / 1024) (s / 1024) (m .«prg_pages») ∙ q .prg; chr = q .chr }
+  typed-set-writable addr s w = prg-typed _ (λ i p. page-word _ w) (addr / 1024) (s / 1024)
 
-  pub lengths-mirroring : (k : Mirroring) → Lengths (setMirroring m k)
-  unfolding setMirroring mirrorPages
-  lengths-mirroring k = record { prg = q .prg; chr = length-each 16 _ 8 8 (m .«chr_pages») ∙ q .chr }
+  pub typed-mirroring : (k : Mirroring) → MemoryTyped (setMirroring m k)
+  unfolding setMirroring mirrorPages nametablePage
+  typed-mirroring k = chr-typed _ (λ i p. page-word _ true) 8 8
 
-pub lengths-new : (s : MemoryLayout) → Lengths (newMemory s)
+pub typed-new : (s : MemoryLayout) → MemoryTyped (newMemory s)
 unfolding newMemory unmappedMemory
-lengths-new s = lengths-mirroring (unmappedMemory s) (record { prg = refl; chr = refl }) Horizontal
+typed-new s =
+    typed-mirroring (unmappedMemory s)
+    (record {
+      prg = refl;
+      chr = refl;
+      «prg-words» = each-replicate (λ (p : Page). p .0 < 2 ^ 32) 64 unmapped unmapped (omega arith) (omega arith);
+      «chr-words» = each-replicate (λ (p : Page). p .0 < 2 ^ 32) 16 unmapped unmapped (omega arith) (omega arith);
+    })
+    Horizontal

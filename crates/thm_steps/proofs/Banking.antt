@@ -12,6 +12,7 @@ use lib.Dec.{ltb}
 use lib.IntN.{ℤ, pos}
 use lib.ListN.{getD}
 use lib.Pow.{pow-pos}
+use Rattle.limits.proofs.Each.{cond-holds}
 use Rattle.memory.specs.declared.Memory.{Memory}
 use Rattle.memory.specs.declared.layout.Layout.{Layout}
 use Rattle.memory.specs.declared.layout.Src.{Src}
@@ -20,21 +21,20 @@ use Rattle.memory.specs.declared.mirroring.Mirroring.{Mirroring}
 use Rattle.memory.specs.declared.page.Page.{Page}
 use Rattle.memory.specs.Changes.{changed, prgChanges}
 use Rattle.memory.specs.Layout.{regionLen, pagesIn}
-use Rattle.memory.specs.Range.{Ranged}
+use Rattle.memory.specs.Range.{Ranged, MemoryTyped, MemoryInRange}
 use Rattle.memory_map.specs.Mirroring.{setMirroring}
 use Rattle.memory.specs.Page.{unmapped}
 use Rattle.memory_map.specs.Windows.{mapPages, showPages, unmapPages, setWritable, mapPrg, mapChr, unmapPrg, setPrgWritable}
-use Rattle.memory_map.proofs.Laws.Memory.{Lengths, each-other, ranged-map-prg, ranged-map-chr, ranged-unmap-prg, ranged-set-writable, ranged-mirroring, lengths-map-prg, lengths-map-chr, lengths-unmap-prg, lengths-set-writable, lengths-mirroring}
+use Rattle.memory_map.proofs.Laws.Memory.{each-other, ranged-map-prg, ranged-map-chr, ranged-unmap-prg, ranged-set-writable, ranged-mirroring, typed-map-prg, typed-map-chr, typed-unmap-prg, typed-set-writable, typed-mirroring}
 use Rattle.board_chip.specs.declared.namco163.Namco163.{Namco163}
-use Rattle.board_chip.specs.Namco163.{is163}
+use Rattle.board_chip.specs.Namco163.{prgWindow, chrWindow, is163}
 use Rattle.board_chip.specs.Detection.{prgRamReadable}
 use Rattle.board_banking.specs.Banking.{slotSrc, mapSlot, mapSlots, mapChrTable, mapRom, mapWorkRam, updateBanks}
 
 -- ---- a memory in range stays in range
 
 ranged-cond : (t : Bool) (a b : Memory) → Ranged a → Ranged b → Ranged (cond t a b)
-ranged-cond true a b p q = p
-ranged-cond false a b p q = q
+ranged-cond = cond-holds Ranged
 
 -- CHR and CIRAM are as long as their pages
 slot-pages : (l : Layout) (used : ℕ) (ciram : Bool) → regionLen l used (slotSrc ciram) ≡ 1024 * pagesIn l (slotSrc ciram)
@@ -44,9 +44,9 @@ slot-pages l used false = refl
 ranged-slot : (m : Memory) (slot bank : ℕ) (ciram : Bool) → Ranged m → Ranged (mapSlot m slot bank ciram)
 unfolding mapSlot mapChr
 ranged-slot m slot bank ciram q =
-    let low = ranged-map-chr m q (slot * 1024) 1024 (pos bank) (slotSrc ciram) refl (slot-pages _ _ ciram) in
+    let low = ranged-map-chr m q (slot * chrWindow) chrWindow (pos bank) (slotSrc ciram) refl (slot-pages _ _ ciram) in
     ranged-cond (ltb slot 8) _ _ low
-    (ranged-map-chr _ low (slot * 1024 + 0x1000) 1024 (pos bank) (slotSrc ciram) refl (slot-pages _ _ ciram))
+    (ranged-map-chr _ low (slot * chrWindow + 0x1000) chrWindow (pos bank) (slotSrc ciram) refl (slot-pages _ _ ciram))
 
 ranged-slots : (n : Namco163) (k : ℕ) (m : Memory) → Ranged m → Ranged (mapSlots n k m)
 unfolding mapSlots
@@ -59,8 +59,8 @@ ranged-table n m q =
     ranged-cond (is163 (n .board)) _ _ (ranged-slots n 12 m q) (ranged-mirroring (mapSlots n 8 m) (ranged-slots n 8 m q) (n .mirroring))
 
 -- a PRG-ROM bank in an 8 KiB window
-ranged-window : (m : Memory) (addr : ℕ) (b : ℤ) → Ranged m → Ranged (mapPrg m addr 8192 b PrgRom)
-ranged-window m addr b q = ranged-map-prg m q addr 8192 b PrgRom refl refl
+ranged-window : (m : Memory) (addr : ℕ) (b : ℤ) → Ranged m → Ranged (mapPrg m addr prgWindow b PrgRom)
+ranged-window m addr b q = ranged-map-prg m q addr prgWindow b PrgRom refl refl
 
 ranged-rom : (n : Namco163) (m : Memory) → Ranged m → Ranged (mapRom n m)
 unfolding mapRom
@@ -70,8 +70,8 @@ ranged-work-ram : (n : Namco163) (m : Memory) → Ranged m → Ranged (mapWorkRa
 unfolding mapWorkRam
 ranged-work-ram n m q =
     ranged-cond (prgRamReadable (n .board)) _ _
-    (ranged-set-writable _ (ranged-map-prg m q 0x6000 8192 (pos 0) PrgRam refl refl) 0x6000 8192 _)
-    (ranged-unmap-prg m q 0x6000 8192)
+    (ranged-set-writable _ (ranged-map-prg m q 0x6000 prgWindow (pos 0) PrgRam refl refl) 0x6000 prgWindow _)
+    (ranged-unmap-prg m q 0x6000 prgWindow)
 
 pub update-banks-ranged : (n : Namco163) (m : Memory) → Ranged m → Ranged (updateBanks n m)
 unfolding updateBanks
@@ -83,10 +83,10 @@ pub record Kept (m k : Memory) : Type 0 where
   pub layout : k .layout ≡ m .layout
   pub used : k .«battery_ext_len» ≡ m .«battery_ext_len»
   pub low : (i : ℕ) → i < 24 → getD (k .«prg_pages») i unmapped ≡ getD (m .«prg_pages») i unmapped
-  pub lengths : Lengths m → Lengths k
+  pub typed : MemoryTyped m → MemoryTyped k
 
 kept-self : (m : Memory) → Kept m m
-kept-self m = record { layout = refl; used = refl; low = λ i h. refl; lengths = λ q. q }
+kept-self m = record { layout = refl; used = refl; low = λ i h. refl; typed = λ q. q }
 
 kept-both : {m k l : Memory} → Kept m k → Kept k l → Kept m l
 kept-both p q =
@@ -94,51 +94,50 @@ kept-both p q =
       layout = q .layout ∙ p .layout;
       used = q .used ∙ p .used;
       low = λ i h. q .low i h ∙ p .low i h;
-      lengths = λ l. q .lengths (p .lengths l);
+      typed = λ t. q .typed (p .typed t);
     }
 
 kept-cond : (t : Bool) (m a b : Memory) → Kept m a → Kept m b → Kept m (cond t a b)
-kept-cond true m a b p q = p
-kept-cond false m a b p q = q
+kept-cond t m = cond-holds (Kept m) t
 
 kept-chr : (m : Memory) (addr s : ℕ) (b : ℤ) (src : Src) → Kept m (mapChr m addr s b src)
 unfolding mapChr
-kept-chr m addr s b src = record { layout = refl; used = refl; low = λ i h. refl; lengths = λ q. lengths-map-chr m q addr s b src }
+kept-chr m addr s b src = record { layout = refl; used = refl; low = λ i h. refl; typed = λ q. typed-map-chr m q addr s b src }
 
 kept-mirroring : (m : Memory) (k : Mirroring) → Kept m (setMirroring m k)
 unfolding setMirroring
-kept-mirroring m k = record { layout = refl; used = refl; low = λ i h. refl; lengths = λ q. lengths-mirroring m q k }
+kept-mirroring m k = record { layout = refl; used = refl; low = λ i h. refl; typed = λ q. typed-mirroring m q k }
 
 -- an 8 KiB window at 6000 or above, at entry 24 or above
 module _ (m : Memory) (addr : ℕ) (lo : 0x6000 ≤ addr) (hi : addr ≤ 0xE000) where
-  kept-prg : (b : ℤ) (src : Src) → Kept m (mapPrg m addr 8192 b src)
+  kept-prg : (b : ℤ) (src : Src) → Kept m (mapPrg m addr prgWindow b src)
   unfolding mapPrg mapPages showPages
   kept-prg b src =
       record {
         layout = refl;
         used = refl;
         low = λ i h. each-other 64 _ (addr / 1024) 8 (m .«prg_pages») i (λ j k e. absurd (omega arith));
-        lengths = λ q. lengths-map-prg m q addr 8192 b src;
+        typed = λ q. typed-map-prg m q addr prgWindow b src;
       }
 
-  kept-unmap : Kept m (unmapPrg m addr 8192)
+  kept-unmap : Kept m (unmapPrg m addr prgWindow)
   unfolding unmapPrg unmapPages
   kept-unmap =
       record {
         layout = refl;
         used = refl;
         low = λ i h. each-other 64 _ (addr / 1024) 8 (m .«prg_pages») i (λ j k e. absurd (omega arith));
-        lengths = λ q. lengths-unmap-prg m q addr 8192;
+        typed = λ q. typed-unmap-prg m q addr prgWindow;
       }
 
-  kept-writable : (w : Bool) → Kept m (setPrgWritable m addr 8192 w)
+  kept-writable : (w : Bool) → Kept m (setPrgWritable m addr prgWindow w)
   unfolding setPrgWritable setWritable
   kept-writable w =
       record {
         layout = refl;
         used = refl;
         low = λ i h. each-other 64 _ (addr / 1024) 8 (m .«prg_pages») i (λ j k e. absurd (omega arith));
-        lengths = λ q. lengths-set-writable m q addr 8192 w;
+        typed = λ q. typed-set-writable m q addr prgWindow w;
       }
 
 kept-slot : (m : Memory) (slot bank : ℕ) (ciram : Bool) → Kept m (mapSlot m slot bank ciram)
