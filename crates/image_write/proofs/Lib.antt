@@ -1,5 +1,4 @@
 -- The laws of the image, and the proofs of src/.
 pub mod Parts
 pub mod Levels
-pub mod Ranges
 pub mod Whole

@@ -8,7 +8,7 @@ use lib.ListN.{getD, replicate}
 use Rattle.bits.specs.Fields.{pack, bit, times, each}
 use Rattle.bits.specs.Words.{bytesOf}
 use Rattle.bits.specs.declared.cursor.Cursor.{Cursor}
-use Rattle.limits.specs.Limits.{usedMost}
+use Rattle.limits.specs.Limits.{usedMost, prgEntries, chrEntries}
 use Rattle.memory.specs.declared.Memory.{Memory}
 use Rattle.memory.specs.declared.page.Page.{Page}
 use Rattle.memory.specs.Mirroring.{mirroringNum}
@@ -95,7 +95,7 @@ layoutFields m =
     ∷ []
 
 abbrev pub memoryWidths : List (List ℕ)
-memoryWidths = times 64 pageWidths ∷ times 16 pageWidths ∷ layoutWidths ∷ []
+memoryWidths = times prgEntries pageWidths ∷ times chrEntries pageWidths ∷ layoutWidths ∷ []
 
 abbrev pub memoryFields : Memory → List (List ℕ)
 memoryFields m = each pageFields (m .«prg_pages») ∷ each pageFields (m .«chr_pages») ∷ layoutFields m ∷ []

@@ -5,7 +5,7 @@ use mathlib.Core.List.{List, [], _∷_}
 use lib.Dec.{eqb}
 use lib.ListN.{length}
 use Rattle.board_state.specs.declared.State.{State}
-use Rattle.call_refusals.specs.Refusals.{Check, firstOf, ifAccepted, stateCheck}
+use Rattle.call_refusals.specs.Refusals.{Check, firstOf, unlessKept, stateCheck}
 use Rattle.image_write.specs.Image.{imageBytes, imageOf}
 
 -- "1. An image, to read or to write, is not 307 bytes."
@@ -22,4 +22,4 @@ writeRefusal s len = firstOf (writeChecks s len)
 
 -- the buffer afterwards: the state's image, or unaltered
 unfoldable pub writtenImage : State → List ℕ → List ℕ
-writtenImage s img = ifAccepted (writeRefusal s (length img)) (imageOf s) img
+writtenImage s img = unlessKept (writeChecks s (length img)) img (imageOf s)

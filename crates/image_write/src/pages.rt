@@ -10,6 +10,7 @@ ghost use Prim.Native.Nat.{_+_, _*_, _<_, _≤_};
 ghost use lib.ListN.{length};
 ghost use Rattle.bits.specs.Fields.{times, each};
 ghost use Rattle.bits.specs.Cursor.{Wrote};
+ghost use Rattle.limits.specs.Limits.{prgEntries, chrEntries};
 ghost use Rattle.image_write.specs.Image.{imageBytes, pageWidths, pageFields, byteAt};
 ghost use Rattle.image_write.specs.Pages.{PagesFit};
 ghost use Rattle.image_write.specs.Sections.{prgPagesAt, chrPagesAt, layoutAt};
@@ -38,9 +39,9 @@ fn put_eight(img: &mut [u8], at: usize, g: [Page; 8])
 
 // Each table goes by eight entries.
 pub fn put_prg_pages(img: &mut [u8], pages: [Page; 64])
-    requires { ⌜ (length (now img) ≡ imageBytes) × PagesFit 64 pages ⌝ }
+    requires { ⌜ (length (now img) ≡ imageBytes) × PagesFit prgEntries pages ⌝ }
     ensures { λ _. ⌜ Wrote (now (img .entry)) (now (img .exit)) (byteAt prgPagesAt) (byteAt chrPagesAt)
-        (times 64 pageWidths) (each pageFields pages) ⌝ }
+        (times prgEntries pageWidths) (each pageFields pages) ⌝ }
 {
     let mut k: usize = 0;
     while k < 8 {
@@ -59,9 +60,9 @@ pub fn put_prg_pages(img: &mut [u8], pages: [Page; 64])
 }
 
 pub fn put_chr_pages(img: &mut [u8], pages: [Page; 16])
-    requires { ⌜ (length (now img) ≡ imageBytes) × PagesFit 16 pages ⌝ }
+    requires { ⌜ (length (now img) ≡ imageBytes) × PagesFit chrEntries pages ⌝ }
     ensures { λ _. ⌜ Wrote (now (img .entry)) (now (img .exit)) (byteAt chrPagesAt) (byteAt layoutAt)
-        (times 16 pageWidths) (each pageFields pages) ⌝ }
+        (times chrEntries pageWidths) (each pageFields pages) ⌝ }
 {
     let mut k: usize = 0;
     while k < 2 {

@@ -21,21 +21,19 @@ use bits::cursor::put_bytes;
 use bits::cursor::put_run;
 use board_chip::namco163::Namco163;
 use board_state::State;
-use board_state::audio::whole_part;
 use board_state::in_range;
 use memory::Memory;
 use sound::audio::Audio;
+use sound::levels::whole_part;
 ghost use mathlib.Core.Path.{_≡_};
-ghost use mathlib.Core.Bool.{true};
 ghost use mathlib.Core.List.{[], _∷_, map};
 ghost use Prim.Native.Nat.{_+_, _*_, _<_, _≤_};
 ghost use lib.Ieee.{binary32, toBits};
 ghost use lib.ListN.{length, replicate};
 ghost use Rattle.bits.specs.Cursor.{Held, Wrote};
-ghost use Rattle.limits.specs.Every.{every};
-ghost use Rattle.board_state.specs.State.{bankTest, inRange};
-ghost use Rattle.sound.specs.Range.{outOk, outputTest, phaseTest, audioOk};
-ghost use Rattle.memory.specs.Range.{memoryOk};
+ghost use Rattle.board_state.specs.State.{BanksIn, Known};
+ghost use Rattle.sound.specs.Range.{OutInRange, Levels, Phases, InRange as AudioInRange};
+ghost use Rattle.memory.specs.Range.{MemoryInRange};
 ghost use Rattle.image_write.specs.Image.{imageBytes, chipWidths, chipFields, soundWidths};
 ghost use Rattle.image_write.specs.Image.{soundFields, levelNum, memoryWidths, memoryFields, joined, imageOf, byteAt};
 ghost use Rattle.image_write.specs.Sections.{chipAt, ramAt, portAt, levelsAt, outAt, phasesAt, prgPagesAt};
@@ -59,7 +57,7 @@ fn put_chr_banks(img: &mut [u8], w: Cursor, banks: [u8; 12]) -> Cursor
 
 // The channel outputs as whole numbers.
 fn put_levels(img: &mut [u8], outs: [f32; 8])
-    requires { ⌜ (length (now img) ≡ imageBytes) × (every 8 (outputTest outs) ≡ true) ⌝ }
+    requires { ⌜ (length (now img) ≡ imageBytes) × Levels outs ⌝ }
     ensures { λ _. ⌜ Wrote (now (img .entry)) (now (img .exit)) (byteAt levelsAt) (byteAt outAt) (replicate 8 12) (map levelNum outs) ⌝ }
 {
     let mut c = Cursor {
@@ -89,7 +87,7 @@ fn put_ram(img: &mut [u8], ram: [u8; 128])
 }
 
 fn put_out(img: &mut [u8], x: f32)
-    requires { ⌜ (length (now img) ≡ imageBytes) × (outOk x ≡ true) ⌝ }
+    requires { ⌜ (length (now img) ≡ imageBytes) × OutInRange x ⌝ }
     ensures { λ _. ⌜ Wrote (now (img .entry)) (now (img .exit)) (byteAt outAt) (byteAt phasesAt) (32 ∷ []) (toBits binary32 x ∷ []) ⌝ }
 {
     let c = Cursor {
@@ -102,7 +100,7 @@ fn put_out(img: &mut [u8], x: f32)
 }
 
 fn put_phases(img: &mut [u8], phases: [u32; 8])
-    requires { ⌜ (length (now img) ≡ imageBytes) × (every 8 (phaseTest phases) ≡ true) ⌝ }
+    requires { ⌜ (length (now img) ≡ imageBytes) × Phases phases ⌝ }
     ensures { λ _. ⌜ Wrote (now (img .entry)) (now (img .exit)) (byteAt phasesAt) (byteAt prgPagesAt) (replicate 8 24) phases ⌝ }
 {
     let c = Cursor {
@@ -114,7 +112,7 @@ fn put_phases(img: &mut [u8], phases: [u32; 8])
 }
 
 fn put_chip(img: &mut [u8], chip: Namco163)
-    requires { ⌜ (length (now img) ≡ imageBytes) × (every 3 (bankTest (chip .«prg_banks»)) ≡ true) ⌝ }
+    requires { ⌜ (length (now img) ≡ imageBytes) × BanksIn (chip .«prg_banks») ⌝ }
     ensures { λ _. ⌜ Wrote (now (img .entry)) (now (img .exit)) (byteAt chipAt) (byteAt ramAt)
         (joined chipWidths) (joined (chipFields chip)) ⌝ }
 {
@@ -147,7 +145,7 @@ fn put_chip(img: &mut [u8], chip: Namco163)
 }
 
 fn put_sound(img: &mut [u8], audio: Audio)
-    requires { ⌜ (length (now img) ≡ imageBytes) × (audioOk audio ≡ true) ⌝ }
+    requires { ⌜ (length (now img) ≡ imageBytes) × AudioInRange audio ⌝ }
     ensures { λ _. ⌜ Wrote (now (img .entry)) (now (img .exit)) (byteAt ramAt) (byteAt prgPagesAt)
         (joined soundWidths) (joined (soundFields audio)) ⌝ }
 {
@@ -175,7 +173,7 @@ fn put_sound(img: &mut [u8], audio: Audio)
 }
 
 fn put_memory(img: &mut [u8], m: Memory)
-    requires { ⌜ (length (now img) ≡ imageBytes) × (memoryOk m ≡ true) ⌝ }
+    requires { ⌜ (length (now img) ≡ imageBytes) × MemoryInRange m ⌝ }
     ensures { λ _. ⌜ Wrote (now (img .entry)) (now (img .exit)) (byteAt prgPagesAt) (byteAt imageBytes)
         (joined memoryWidths) (joined (memoryFields m)) ⌝ }
 {
@@ -193,7 +191,7 @@ fn put_memory(img: &mut [u8], m: Memory)
 
 // The image of a state that is known to be in range.
 pub fn put_state(img: &mut [u8], s: State)
-    requires { ⌜ (length (now img) ≡ imageBytes) × (inRange s ≡ true) ⌝ }
+    requires { ⌜ (length (now img) ≡ imageBytes) × Known s ⌝ }
     ensures { λ _. ⌜ now (img .exit) ≡ imageOf s ⌝ }
 {
     let chip = s.chip;

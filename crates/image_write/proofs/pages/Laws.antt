@@ -12,10 +12,23 @@ use Rattle.bits.specs.declared.cursor.Cursor.{Cursor}
 use Rattle.bits.proofs.Lists.{listed-take}
 use Rattle.bits.proofs.cursor.Laws.{wrote-append, wrote-none, wrote-more}
 use Rattle.memory.specs.declared.page.Page.{Page}
+use Rattle.memory.specs.declared.Memory.{Memory}
 use Rattle.memory.specs.Page.{unmapped}
+use Rattle.memory.specs.Range.{Ranged}
+use Rattle.memory.proofs.Laws.Layout.{pages-le}
+use Rattle.limits.specs.Limits.{prgEntries, chrEntries}
 use Rattle.image_write.specs.Image.{byteAt, pageWidths, pageFields}
 use Rattle.image_write.specs.Pages.{PagesFit}
 use Rattle.image_write.proofs.Parts.{byte-held, wrote-to, wrote-fields}
+
+-- ---- entries inside an arena have page numbers of 10 bits
+
+module _ (m : Memory) (r : Ranged m) where
+  pub prg-fit : PagesFit prgEntries (m .«prg_pages»)
+  prg-fit i h = omega (arith, r .prg i h .inside, pages-le (m .layout) (r .sized .layout))
+
+  pub chr-fit : PagesFit chrEntries (m .«chr_pages»)
+  chr-fit i h = omega (arith, r .chr i h .inside, pages-le (m .layout) (r .sized .layout))
 
 -- ---- eight entries
 

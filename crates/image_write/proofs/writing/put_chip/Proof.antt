@@ -8,7 +8,6 @@ use Rattle.bits.specs.declared.cursor.Cursor.{Cursor}
 use Rattle.image_write.specs.Image.{imageBytes, joined, chipWidths, chipFields, part}
 use Rattle.image_write.specs.Sections.{chipAt, ramAt}
 use Rattle.image_write.proofs.Parts.{wrote-to, wrote-fields, wrote-end, wrote-part}
-use Rattle.image_write.proofs.Ranges.{bank-at}
 use native.Mathlib.Omega.{arith}
 use borrow.Author.Needs.{needs}
 use Rattle.image_write.proofs.writing.put_chip.Statement.{statement}
@@ -79,8 +78,7 @@ put-chr-banks-requires c κs = let a = after-flags (flags c) in (flags c .put3 .
 
 banks-word-requires : tie.Need-banks-word-requires
 banks-word-requires c κs =
-    let s = begun (chr c) in let f = bank-at (s .args .chip .«prg_banks») (s .pre .1) in
-    (f 0 (omega arith), f 1 (omega arith), f 2 (omega arith))
+    let banks = begun (chr c) .pre .1 in (banks 0, banks 1, banks 2)
 
 put-requires-4 : tie.Need-put-requires-4
 put-requires-4 c κs =

@@ -1,20 +1,18 @@
 -- `put_levels` meets its contract: channel after channel.
 use mathlib.Core.Path.{_≡_, refl}
 use mathlib.Core.List.{map}
-use Prim.Native.Nat.{ℕ, _-_, _≤_, _<_}
-use lib.ListN.{length, take, getD, replicate, length-map}
+use Prim.Native.Nat.{_-_, _≤_}
+use lib.ListN.{length, take, replicate, length-map}
 use lib.Seq.{take-all}
 use Rattle.bits.specs.Fields.{total}
 use Rattle.bits.specs.Cursor.{Wrote}
 use Rattle.bits.proofs.Fields.{total-replicate}
 use Rattle.bits.proofs.Lists.{getD-map}
 use Rattle.bits.proofs.cursor.Laws.{wrote-none, wrote-suc}
-use Rattle.sound.specs.Range.{outputTest}
-use Rattle.limits.proofs.Every.{every-at}
 use lib.Ieee.{nan}
 use Rattle.image_write.specs.Image.{byteAt, levelNum}
 use Rattle.image_write.specs.Sections.{levelsAt, outAt}
-use Rattle.image_write.proofs.Levels.{LevelFacts, level-facts}
+use Rattle.image_write.proofs.Levels.{level-out, level-small}
 use Rattle.image_write.proofs.Parts.{wrote-to, byte-held}
 use native.Mathlib.Omega.{arith}
 use borrow.Author.Needs.{needs}
@@ -32,17 +30,13 @@ abbrev μ-loop : tie.MeasureT-loop
 loop-holds : tie.Need-loop-holds Inv-loop μ-loop
 loop-holds c = (omega arith, search needs, refl, wrote-none (c .before .args .img .now) (byteAt levelsAt) (byte-held levelsAt))
 
--- what the test of the outputs says of output i
-level : (c : tie.Start Inv-loop μ-loop) (i : ℕ) → i < 8 → LevelFacts (getD (c .args .t2) i nan)
-level c i h = level-facts _ (every-at 8 (outputTest (c .args .t2)) (c .pre .1) i h)
-
 float-to-bits-bits : tie.Need-float-to-bits-bits Inv-loop μ-loop
 float-to-bits-bits c =
-    let at-test = c .before in level (at-test .before .before) (at-test .loop .i) (omega arith) .out .number
+    let at-test = c .before in level-out _ (at-test .before .before .pre .1 (at-test .loop .i) (omega arith)) .number
 
 whole-part-requires : tie.Need-whole-part-requires Inv-loop μ-loop
 whole-part-requires c κs =
-    let at-test = c .before .before in level (at-test .before .before) (at-test .loop .i) (omega arith) .out .bits
+    let at-test = c .before .before in level-out _ (at-test .before .before .pre .1 (at-test .loop .i) (omega arith)) .bits
 
 put-requires : tie.Need-put-requires Inv-loop μ-loop
 unfolding total
@@ -51,7 +45,7 @@ put-requires c κs =
       l .inv .3 .held,
       (
         omega arith,
-        omega (arith, level s (l .i) (omega arith) .small, c .whole-part .ensures .0),
+        omega (arith, level-small _ (s .pre .1 (l .i) (omega arith)), c .whole-part .ensures .0),
         omega (arith, l .inv .3 .pos, total-replicate (l .i) 12),
       ),
     )

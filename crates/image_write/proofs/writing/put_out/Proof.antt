@@ -1,7 +1,6 @@
 -- `put_out` meets its contract: the bits of a number fit.
 use Rattle.bits.specs.Fields.{total}
 use Rattle.image_write.specs.Sections.{outAt, phasesAt}
-use Rattle.image_write.proofs.Levels.{out-facts}
 use Rattle.image_write.proofs.Parts.{wrote-to, byte-held}
 use native.Mathlib.Omega.{arith}
 use borrow.Author.Needs.{needs}
@@ -9,13 +8,13 @@ use Rattle.image_write.proofs.writing.put_out.Statement.{statement}
 use Rattle.image_write.proofs.writing.put_out.Tie as tie
 
 float-to-bits-bits : tie.Need-float-to-bits-bits
-float-to-bits-bits c = out-facts _ (c .before .pre .1) .number
+float-to-bits-bits c = c .before .pre .1 .number
 
 cast-put : tie.Need-cast-put
-cast-put c = omega (arith, out-facts _ (c .before .before .pre .1) .bits)
+cast-put c = omega (arith, c .before .before .pre .1 .bits)
 
 put-requires : tie.Need-put-requires
-put-requires c κs = (byte-held outAt, (omega arith, omega (arith, out-facts _ (c .before .before .pre .1) .bits), omega arith))
+put-requires c κs = (byte-held outAt, (omega arith, omega (arith, c .before .before .pre .1 .bits), omega arith))
 
 returns : tie.Need-returns
 unfolding total

@@ -1,11 +1,7 @@
 -- `put_phases` meets its contract: phases in range fit their width.
 use mathlib.Core.Path.{_≡_, refl}
-use lib.ListN.{length, getD}
+use lib.ListN.{length}
 use Rattle.bits.specs.Fields.{total}
-use Rattle.sound.specs.Range.{phaseTest}
-use Rattle.limits.specs.Limits.{phaseLimit}
-use Rattle.limits.proofs.Every.{every-at}
-use borrow.Author.Tests.{ltb-true}
 use Rattle.image_write.specs.Sections.{phasesAt, prgPagesAt}
 use Rattle.image_write.proofs.Parts.{wrote-to, byte-held, fit-replicate}
 use native.Mathlib.Omega.{arith}
@@ -20,8 +16,7 @@ put-run-requires c κs =
       byte-held phasesAt,
       (
         omega arith,
-        fit-replicate (length xs) 24 xs refl
-            (λ i h. ltb-true (getD xs i 0) phaseLimit (every-at 8 (phaseTest xs) (s .pre .1) i (omega arith))),
+        fit-replicate (length xs) 24 xs refl (λ i h. s .pre .1 i),
         omega arith,
       ),
     )

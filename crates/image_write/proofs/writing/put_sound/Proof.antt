@@ -8,17 +8,12 @@ use Rattle.sound.proofs.audio.Typed.{typed}
 use Rattle.image_write.specs.Image.{part, soundWidths, soundFields, levelNum}
 use Rattle.image_write.specs.Sections.{portAt, levelsAt, prgPagesAt}
 use Rattle.image_write.proofs.Parts.{wrote-to, wrote-fields, wrote-part, wrote-end, byte-held}
-use Rattle.image_write.proofs.Ranges.{SoundFacts, sound-facts}
 use native.Mathlib.Omega.{arith}
 use borrow.Author.Needs.{needs}
 use Rattle.image_write.proofs.writing.put_sound.Statement.{statement}
 use Rattle.image_write.proofs.writing.put_sound.Tie as tie
 
--- what the test of the sound says
-facts : (c : tie.Start) → SoundFacts (c .args .audio)
-facts c = sound-facts (c .args .audio) (c .pre .1)
-
--- and what its types say
+-- what the types of the sound say
 types : (c : tie.Start) → Typed (c .args .audio)
 types c = typed _ _ (c .good .1 .0)
 
@@ -39,16 +34,16 @@ abbrev begun : tie.After-put-levels-arg → tie.Start
 begun c = start (port c .before .before .before)
 
 port-word-requires : tie.Need-port-word-requires
-port-word-requires c κs = let f = facts (start c) in (f .addr, f .counter, f .channel)
+port-word-requires c κs = let r = start c .pre .1 in (r .address, r .counter, r .channel)
 
 put-levels-requires : tie.Need-put-levels-requires
-put-levels-requires c κs = (search needs, facts (begun c) .outputs)
+put-levels-requires c κs = (search needs, begun c .pre .1 .outputs)
 
 put-out-requires : tie.Need-put-out-requires
-put-out-requires c κs = (search needs, facts (begun (levels c .before)) .out)
+put-out-requires c κs = (search needs, begun (levels c .before) .pre .1 .mixed)
 
 put-phases-requires : tie.Need-put-phases-requires
-put-phases-requires c κs = (search needs, facts (begun (levels (out c .before) .before)) .phases)
+put-phases-requires c κs = (search needs, begun (levels (out c .before) .before) .pre .1 .phases)
 
 returns : tie.Need-returns
 unfolding total

@@ -1,5 +1,6 @@
 -- `write_image` meets its contract: refused by its length, accepted, refused by its state.
 use mathlib.Core.Path.{sym, _∙_}
+use Rattle.board_state.proofs.Range.{known}
 use Rattle.image_write.proofs.writing.Laws.{refused-length, refused-state, accepted}
 use borrow.Author.Needs.{needs}
 use Rattle.image_write.proofs.writing.write_image.Statement.{statement}
@@ -9,7 +10,9 @@ returns : tie.Need-returns
 returns c = let a = c .before .before .args in refused-length (a .s) (a .img .now) (c .if1 .taken)
 
 put-state-requires : tie.Need-put-state-requires
-put-state-requires c κs = (search needs, sym (c .before .before .in-range .ensures) ∙ c .before .if2 .taken)
+put-state-requires c κs =
+    let tested = c .before .before in let s = tested .before .before .before in
+    (search needs, known (s .args .s) _ (s .good .0) (sym (tested .in-range .ensures) ∙ c .before .if2 .taken))
 
 returns-2 : tie.Need-returns-2
 returns-2 c =
