@@ -4,7 +4,7 @@ use mathlib.Core.Path.{_≡_, refl}
 use mathlib.Core.Bool.{Bool, true, false, cond, _&&_}
 use native.Mathlib.Omega.{arith}
 use borrow.Author.Needs.{needs}
-use borrow.Author.Tests.{eqb-true, eqb-false, eq-eqb}
+use borrow.Author.Tests.{not-false, eqb-true, eqb-false, eq-eqb}
 use lib.Dec.{eqb}
 use Rattle.memory.specs.declared.layout.MemoryLayout.{MemoryLayout}
 use Rattle.memory.specs.Layout.{withinLimits, layoutOf}
@@ -13,7 +13,6 @@ use Rattle.memory_map.specs.Mirroring.{setMirroring}
 use Rattle.memory_map.specs.New.{unmappedMemory, newMemory}
 use Rattle.memory.proofs.Laws.Layout.{layout-good}
 use Rattle.board_state.specs.State.{mapperOk}
-use Rattle.limits.proofs.Every.{was-true}
 use Rattle.call_refusals.specs.Refusals.{firstOf, loadChecks}
 use Rattle.call_load.specs.Cartridge.{LoadFits, memoryAtLoad}
 use Rattle.call_refusals.proofs.Laws.{accepted-none}
@@ -35,10 +34,10 @@ pub load-good : (mapper : ℕ) (sizes : MemoryLayout) (len : ℕ) → firstOf (l
 load-good mapper sizes len e =
     let h = accepted-none (loadChecks mapper sizes len) (search needs) e in
     record {
-      small = number (eqb mapper 19) refl (was-true (mapperOk mapper) (h .0));
+      small = number (eqb mapper 19) refl (not-false (mapperOk mapper) (h .0));
       fits =
           record {
-            within = was-true (withinLimits sizes) (h .1 .0);
+            within = not-false (withinLimits sizes) (h .1 .0);
             reserve = λ q. some (eqb (sizes .«battery_ext») 0) refl (h .1 .1 .0) q;
           };
     }

@@ -6,7 +6,7 @@ use mathlib.Core.Bool.{Bool, true, false, cond}
 use mathlib.Core.List.{List, [], _∷_, _++_}
 use native.Mathlib.Omega.{arith}
 use borrow.Author.Needs.{needs}
-use borrow.Author.Tests.{ne-eqb, eqb-true, eqb-false, ltb-false}
+use borrow.Author.Tests.{not-false, ne-eqb, eqb-true, eqb-false, ltb-false}
 use mathlib.Core.Logic.{_⊎_, inl, inr}
 use lib.Dec.{eqb}
 use lib.ListN.{length}
@@ -18,7 +18,6 @@ use Rattle.memory.specs.Memory.{regionIn}
 use Rattle.memory_bytes.specs.Bytes.{Backed}
 use Rattle.board_state.specs.declared.State.{State}
 use Rattle.board_state.specs.State.{inRange}
-use Rattle.limits.proofs.Every.{was-true}
 use Rattle.board_state.proofs.Range.{memory-good}
 use Rattle.call_refusals.specs.Refusals.{Check, firstOf, unlessRefused, stateChecks, resetChecks, arenaChecks, cpuChecks, fillChecks, batteryChecks}
 
@@ -111,7 +110,7 @@ module _ (s : State) (len q : ℕ) (last : Check) (e : q ≡ firstOf (arenaCheck
 -- ---- what an accepted call knows
 
 pub state-good : (s : State) → firstOf (stateChecks s) ≡ 0 → inRange s ≡ true
-state-good s e = was-true (inRange s) (accepted-none (stateChecks s) (search needs) e .0)
+state-good s e = not-false (inRange s) (accepted-none (stateChecks s) (search needs) e .0)
 
 -- a memory in range and an arena of its layout's length
 pub record Arena (s : State) (len : ℕ) : Type 0 where
@@ -121,8 +120,8 @@ pub record Arena (s : State) (len : ℕ) : Type 0 where
 arena-none : (s : State) (len : ℕ) → NoneHolds (arenaChecks s len) → Arena s len
 arena-none s len h =
     record {
-      good = was-true (inRange s) (h .0);
-      long = eqb-true len (arenaLen (s .memory .layout)) (was-true (eqb len (arenaLen (s .memory .layout))) (h .1 .0));
+      good = not-false (inRange s) (h .0);
+      long = eqb-true len (arenaLen (s .memory .layout)) (not-false (eqb len (arenaLen (s .memory .layout))) (h .1 .0));
     }
 
 pub arena-good : (s : State) (len : ℕ) → firstOf (arenaChecks s len) ≡ 0 → Arena s len
@@ -143,7 +142,7 @@ pub backed : (s : State) (arena : List ℕ) → Arena s (length arena) → Backe
 backed s arena h = record { ranged = memory-good s (h .good) .ranged; long = h .long }
 
 pub reset-good : (s : State) (kind : ℕ) → firstOf (resetChecks s kind) ≡ 0 → inRange s ≡ true
-reset-good s kind e = was-true (inRange s) (accepted-none (resetChecks s kind) (search needs) e .0)
+reset-good s kind e = not-false (inRange s) (accepted-none (resetChecks s kind) (search needs) e .0)
 
 -- the battery's 128 bytes lie in the arena
 pub record Battery (s : State) (len : ℕ) : Type 0 where

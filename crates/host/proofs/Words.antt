@@ -7,7 +7,7 @@ use mathlib.Core.List.{List, [], _∷_}
 use native.Mathlib.Nat.{pow-suc}
 use lib.Pow.{pow-pos}
 use native.Mathlib.Omega.{arith}
-use borrow.Author.Tests.{eqb-true, ltb-false}
+use borrow.Author.Tests.{not-false, eqb-true, ltb-false}
 use borrow.Author.Needs.{needs}
 use lib.Dec.{eqb}
 use lib.ListN.{length}
@@ -18,7 +18,6 @@ use Rattle.memory.specs.declared.layout.MemoryLayout.{MemoryLayout}
 use Rattle.memory.specs.declared.page.Page.{Page}
 use Rattle.memory.specs.Changes.{same, changed, chrChanges}
 use Rattle.memory.specs.Page.{pick}
-use Rattle.limits.proofs.Every.{was-true}
 use Rattle.call_cpu.specs.declared.calls.Written.{Written}
 use Rattle.call_refusals.specs.Refusals.{Check, firstOf, kindCheck, cpuChecks, loadChecks}
 use Rattle.call_cpu.specs.Calls.{changes, writeRegister, cpuRead, cpuWrite}
@@ -169,5 +168,5 @@ run-counts img samples n e =
     let cs = onImage img (runOwn (stateIn img) samples n) in
     let w = ap (λ (x : Gives). x .word) (accepted-gives cs img samples g e) in
     let h = accepted-none cs (search needs) e in
-    let few = made-most (stateIn img) n (fields-range (fieldsOf img) (was-true _ (h .1 .0))) (ltb-false 65536 n (h .1 .1 .0)) in
+    let few = made-most (stateIn img) n (fields-range (fieldsOf img) (not-false _ (h .1 .0))) (ltb-false 65536 n (h .1 .1 .0)) in
     record { samples = omega (arith, w, few); rises = omega (arith, w, few) }

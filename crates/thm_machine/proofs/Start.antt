@@ -1,11 +1,10 @@
 -- An accepted load leaves a fresh state and a zeroed arena of the layout's length.
 use mathlib.Core.Path.{_≡_}
 use native.Mathlib.Omega.{arith}
-use borrow.Author.Tests.{eqb-true}
+use borrow.Author.Tests.{not-false, eqb-true}
 use lib.Dec.{eqb}
 use lib.ListN.{length}
 use Rattle.memory.specs.Layout.{layoutOf, arenaLen}
-use Rattle.limits.proofs.Every.{not-false}
 use Rattle.call_load.specs.Cartridge.{loadAnswer, loadArena}
 use Rattle.call_refusals.specs.Refusals.{loadChecks}
 use Rattle.call_refusals.proofs.Laws.{accepted-none}

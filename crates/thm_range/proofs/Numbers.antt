@@ -5,7 +5,7 @@ use mathlib.Core.Path.{_≡_, refl}
 use mathlib.Core.Bool.{Bool, true, false, not, _&&_}
 use mathlib.Core.List.{List, [], _∷_, _++_}
 use mathlib.Core.Logic.{_↔_}
-use borrow.Author.Tests.{eq-eqb, ne-eqb, eqb-true, eqb-false, lt-ltb, ltb-true}
+use borrow.Author.Tests.{not-false, not-true, eq-eqb, ne-eqb, eqb-true, eqb-false, lt-ltb, ltb-true}
 use lib.Dec.{eqb}
 use Rattle.memory.specs.declared.layout.MemoryLayout.{MemoryLayout}
 use Rattle.memory.specs.declared.layout.Src.{Src}
@@ -13,7 +13,7 @@ use Rattle.memory.specs.Layout.{withinLimits, layoutOf, arenaLen}
 use Rattle.memory.specs.Memory.{regionIn}
 use Rattle.board_state.specs.declared.State.{State}
 use Rattle.board_state.specs.State.{mapperOk, inRange}
-use Rattle.limits.proofs.Every.{and-left, and-right, both, not-false, not-true}
+use Rattle.limits.proofs.Every.{and-left, and-right, both}
 use Rattle.call_refusals.specs.Refusals.{Check, firstOf, stateCheck, kindCheck, mapperCheck, sizesCheck, reserveCheck, arenaCheck, addressCheck, fillCheck, batteryCheck, resetChecks, arenaChecks, cpuChecks, fillChecks, batteryChecks, loadChecks}
 use Rattle.thm_range.proofs.Decided.{Decided, reset-decided, cpu-decided, fill-decided, battery-decided, load-decided}
 

@@ -24,8 +24,7 @@ use Rattle.board_state.specs.declared.State.{State}
 use Rattle.board_state.specs.State.{withChip, inRange}
 use Rattle.call_run.specs.Clock.{soundSample, chipClock, stateClock, counterRun, counterRise}
 use Rattle.call_run.specs.Run.{clocks, made, runLimit, samplesMost, runChecks, runGave}
-use borrow.Author.Tests.{ltb-false}
-use Rattle.limits.proofs.Every.{was-true}
+use borrow.Author.Tests.{not-false, ltb-false}
 use Rattle.call_refusals.specs.Refusals.{firstOf}
 use Rattle.call_refusals.proofs.Laws.{accepted-none}
 
@@ -172,7 +171,7 @@ unfolding made
 run-good s n room e =
     let h = accepted-none (runChecks s n room) (search needs) e in
     record {
-      good = was-true (inRange s) (h .0);
+      good = not-false (inRange s) (h .0);
       short = ltb-false runLimit n (h .1 .0);
       enough = ltb-false room (made n s)
           (h .1 .1 .0);
