@@ -15,7 +15,8 @@ use Rattle.board_chip.specs.Reset.{resetChip}
 use Rattle.board_state.specs.declared.State.{State}
 use Rattle.call_refusals.specs.Refusals.{firstOf, Check, stateChecks, resetChecks, arenaChecks, cpuChecks, fillChecks, batteryChecks}
 use Rattle.board_state.specs.State.{withChip}
-use Rattle.call_cpu.specs.Calls.{cpuByte, writeRegister, changes}
+use Rattle.call_cpu.specs.Calls.{cpuByte, writeRegister}
+use Rattle.memory.specs.Changes.{changes}
 use Rattle.call_reset.specs.Reset.{kindOf}
 use Rattle.call_battery.specs.Battery.{batteryBytes}
 use Rattle.image_write.specs.Image.{imageOf}

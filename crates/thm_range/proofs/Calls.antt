@@ -21,6 +21,7 @@ use Rattle.memory.specs.declared.Memory.{Memory}
 use Rattle.memory.specs.declared.layout.MemoryLayout.{MemoryLayout}
 use Rattle.memory.specs.declared.layout.Src.{Src}
 use Rattle.memory.specs.declared.layout.Src.the-variants.{BatteryExt}
+use Rattle.memory.specs.Changes.{prgChanges, changes}
 use Rattle.memory.specs.Layout.{layoutOf, arenaLen}
 use Rattle.memory.specs.Memory.{regionIn}
 use Rattle.memory.specs.Range.{Ranged, MemoryInRange, UsedIn, MemoryTyped, Bytes}
@@ -39,9 +40,10 @@ use Rattle.board_banking.specs.Banking.{updateBanks}
 use Rattle.board_state.specs.declared.State.{State}
 use Rattle.board_state.specs.State.{mapperOk, MapperIn, Known, withChip}
 use Rattle.board_state.proofs.Range.{mapper-in}
-use Rattle.call_refusals.specs.Refusals.{firstOf, loadChecks}
+use Rattle.call_refusals.specs.Refusals.{firstOf, cpuChecks, loadChecks}
 use Rattle.call_refusals.proofs.Laws.{accepted-none, fill-good, battery-good, backed}
-use Rattle.call_cpu.specs.Calls.{writeRegister}
+use Rattle.call_cpu.specs.declared.calls.Written.{Written}
+use Rattle.call_cpu.specs.Calls.{writeRegister, cpuWrite as cpuWriteGives}
 use Rattle.call_reset.specs.Reset.{kindOf}
 use Rattle.call_battery.specs.Battery.{batteryBytes}
 use Rattle.call_load.specs.Cartridge.{LoadFits, memoryAtLoad, freshState}
@@ -55,7 +57,7 @@ use Rattle.thm_machine.specs.Start.{Loaded, loaded, zeroed}
 use Rattle.thm_machine.proofs.Keeps.{keeps-other}
 use Rattle.thm_machine.proofs.Start.{load-starts}
 use Rattle.thm_steps.proofs.Chip.{Keeps, keeps-audio, after-read-keeps, write-keeps, reset-keeps, load-typed, load-in-range}
-use Rattle.thm_steps.proofs.Banking.{Kept, kept-self, update-banks-ranged, update-banks-kept}
+use Rattle.thm_steps.proofs.Banking.{Kept, kept-self, update-banks-ranged, update-banks-kept, mask-multiple}
 use Rattle.thm_steps.proofs.Clock.{chip-clock-keeps}
 use Rattle.thm_range.specs.Fit.{Fit}
 
@@ -133,12 +135,18 @@ overlay-whole arena at bytes h p q =
 
 -- ---- the accepted calls that alter something
 
-register-fits : (h : Held) (addr v : ℕ) → v < 256 → Fit h → Fit (record { state = writeRegister (h .state) addr v; arena = h .arena })
+register-stays : (s : State) (addr v : ℕ) → Stays (s .memory) (writeRegister s addr v .memory)
 unfolding writeRegister
-register-fits h addr v b f =
-    let s = h .state in let n = writeChip (s .chip) addr v in
-    fit-state h _ (write-keeps (s .chip) addr v b)
-    (cond-holds (Stays (s .memory)) (remaps (s .chip .board) (n .board) addr) _ _ (mapped n (s .memory)) (stays (s .memory))) f
+register-stays s addr v =
+    let n = writeChip (s .chip) addr v in
+    cond-holds (Stays (s .memory)) (remaps (s .chip .board) (n .board) addr) _ _ (mapped n (s .memory)) (stays (s .memory))
+
+register-keeps : (s : State) (addr v : ℕ) → v < 256 → Keeps (s .chip) (writeRegister s addr v .chip)
+unfolding writeRegister
+register-keeps s addr v b = write-keeps (s .chip) addr v b
+
+register-fits : (h : Held) (addr v : ℕ) → v < 256 → Fit h → Fit (record { state = writeRegister (h .state) addr v; arena = h .arena })
+register-fits h addr v b f = fit-state h _ (register-keeps (h .state) addr v b) (register-stays (h .state) addr v) f
 
 fill-fits : (h : Held) (src : Src) (bytes : List ℕ) → Bytes bytes → Fit h → firstOf (checks (fill src bytes) h) ≡ 0
     → Fit (record { state = h .state; arena = fillRegion (h .arena) (h .state .memory) src bytes })
@@ -172,6 +180,13 @@ restore-fits h f e =
     (ram-typed (n .audio) ram long (bytes-take 128 (drop at (h .arena)) (bytes-drop at (h .arena) (f .bytes))))
     (λ t. ram-range (n .audio) ram))
     f
+
+-- "PRG mask at its own bits 24..63": bits 0..23 are clear, from any state, refused or not
+pub cpu-write-mask : (s : State) (arena : List ℕ) (addr v : ℕ) → cpuWriteGives s arena addr v .changed .prg .mask % 2 ^ 24 ≡ 0
+unfolding cpuWriteGives changes prgChanges
+cpu-write-mask s arena addr v =
+    cond-holds (λ (w : Written). w .changed .prg .mask % 2 ^ 24 ≡ 0) (eqb (firstOf (cpuChecks s (length arena) addr)) 0) _ _
+    (mask-multiple 24 (s .memory .«prg_pages») (writeRegister s addr v .memory .«prg_pages») (register-stays s addr v .kept .low)) refl
 
 -- ---- every call of a list
 

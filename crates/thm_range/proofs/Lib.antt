@@ -4,5 +4,4 @@ pub mod Refused
 pub mod Calls
 pub mod Lists
 pub mod Runs
-pub mod Images
 pub mod Numbers

@@ -85,7 +85,7 @@ pub record Kept (m k : Memory) : Type 0 where
   pub low : (i : ℕ) → i < 24 → getD (k .«prg_pages») i unmapped ≡ getD (m .«prg_pages») i unmapped
   pub typed : MemoryTyped m → MemoryTyped k
 
-kept-self : (m : Memory) → Kept m m
+pub kept-self : (m : Memory) → Kept m m
 kept-self m = record { layout = refl; used = refl; low = λ i h. refl; typed = λ q. q }
 
 kept-both : {m k l : Memory} → Kept m k → Kept k l → Kept m l
