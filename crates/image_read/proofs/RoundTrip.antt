@@ -43,17 +43,17 @@ accepted-in-range img e =
     let h = accepted-none (readChecks img) (omega arith, (omega arith, tt)) (sym (refusal-is img) ∙ e) in
     (eqb-true (length img) imageBytes (was-true (eqb (length img) imageBytes) (h .0)), was-true (fieldsOk (fieldsOf img)) (h .1 .0))
 
--- its state is known: its fields fit their widths, and it is in range
+-- and such an image is accepted
+pub in-range-accepted : (img : List ℕ) → length img ≡ imageBytes → fieldsOk (fieldsOf img) ≡ true → readImage img .refusal ≡ 0
+in-range-accepted img l e = ap (λ r. r .refusal) (accepted img l e)
+
+-- the state of an accepted image is known: its fields fit their widths, and it is in range
 pub read-known : (img : List ℕ) → readImage img .refusal ≡ 0 → Known (readImage img .state)
 unfolding fieldsOk
 read-known img e =
     let h = accepted-in-range img e in
     let m = leb (getD (part (cutInto partWidths (fieldsOf img)) 1) 1 0) 4 in
     subst (λ r. Known (r .state)) (sym (accepted img (h .0) (h .1))) (image-known img (and-right m _ (h .1)))
-
--- and such an image is accepted
-pub in-range-accepted : (img : List ℕ) → length img ≡ imageBytes → fieldsOk (fieldsOf img) ≡ true → readImage img .refusal ≡ 0
-in-range-accepted img l e = ap (λ r. r .refusal) (accepted img l e)
 
 -- ---- a state, its image, and that state again
 
