@@ -1,5 +1,5 @@
 -- Which images are accepted, by their board's words and the bits of `out`, and the state that they hold.
-use mathlib.Core.Path.{_≡_, refl, ap, ap₂, _∙_}
+use mathlib.Core.Path.{_≡_, refl, ap, ap₂, _∙_, subst}
 use mathlib.Core.Bool.{Bool, true, false, _&&_, and-false}
 use mathlib.Core.List.{List}
 use Prim.Native.Nat.{ℕ, _-_, _/_, _%_, _^_, _≤_, _<_}
@@ -10,29 +10,27 @@ use lib.ListN.{length, take, drop, getD}
 use Rattle.bits.specs.Fields.{total, unpack}
 use Rattle.bits.specs.Words.{wordOf}
 use Rattle.limits.specs.Limits.{outMost}
+use Rattle.memory.specs.Range.{Bytes}
 use Rattle.board_state.specs.declared.State.{State}
-use Rattle.board_state.specs.State.{inRange}
+use Rattle.board_state.specs.State.{inRange, Known}
 use Rattle.call_refusals.specs.Refusals.{firstOf}
-use Rattle.board_state.specs.None.{noState}
 use Rattle.image_write.specs.Image.{imageBytes, part, joined, chipWidths}
 use Rattle.image_write.specs.Sections.{chipAt, ramAt, outAt, phasesAt}
-use Rattle.image_write.proofs.Ranges.{state-facts, sound-facts}
 use Rattle.image_read.specs.declared.reading.Head.{Head}
-use Rattle.image_read.specs.Reading.{stateFrom, stateOf, fieldsOk, fieldsOf, readImage}
+use Rattle.image_read.specs.Reading.{stateFrom, stateOf, fieldsOk, fieldsOf, refusedRead, readImage}
 use Rattle.image_read.specs.Sections.{fieldsAt, headParts, chipOf, soundAt, memoryAt}
-use Rattle.image_read.specs.Typed.{Bytes}
 use Rattle.image_read.proofs.Fields.{out-at}
+use Rattle.image_read.proofs.Known.{image-known}
 use Rattle.image_read.proofs.Out.{out-most}
 use Rattle.image_read.proofs.Sections.{image-parts}
 
 -- ---- the three answers
 
-pub refused-length : (img : List ℕ) → (length img ≡ imageBytes → ⊥) → readImage img ≡ record { refusal = 1; state = noState }
+pub refused-length : (img : List ℕ) → (length img ≡ imageBytes → ⊥) → readImage img ≡ refusedRead 1
 unfolding readImage firstOf
 refused-length img h = rw (ne-eqb (length img) imageBytes h)
 
-pub refused-fields : (img : List ℕ) → length img ≡ imageBytes → fieldsOk (fieldsOf img) ≡ false → readImage img
-    ≡ record { refusal = 2; state = noState }
+pub refused-fields : (img : List ℕ) → length img ≡ imageBytes → fieldsOk (fieldsOf img) ≡ false → readImage img ≡ refusedRead 2
 unfolding readImage firstOf
 refused-fields img l e = rw (eq-eqb (length img) imageBytes l, e)
 
@@ -64,20 +62,22 @@ module _ (img : List ℕ) (h : Head) (bits : ℕ) (o : Opened img h bits) where
   ok-is = ap₂ (λ (p : List (List ℕ)) (s : State). leb (getD (part p 1) 1 0) 4 && inRange s)
       (image-parts img (o .long) (o .bytes) h (o .head)) state-is
 
-  pub refused-mirroring : 4 < h .detection / 2 % 8 → readImage img ≡ record { refusal = 2; state = noState }
+  pub refused-mirroring : 4 < h .detection / 2 % 8 → readImage img ≡ refusedRead 2
   refused-mirroring l = refused-fields img (o .long) (ok-is ∙ rw (lt-leb (h .detection / 2 % 8) 4 l))
 
-  pub refused-range : inRange held ≡ false → readImage img ≡ record { refusal = 2; state = noState }
+  pub refused-range : inRange held ≡ false → readImage img ≡ refusedRead 2
   refused-range e = refused-fields img (o .long)
       (ok-is ∙ ap (λ (t : Bool). leb (h .detection / 2 % 8) 4 && t) e ∙ and-false (leb (h .detection / 2 % 8) 4))
 
-  pub refused-out : outMost < bits → readImage img ≡ record { refusal = 2; state = noState }
+  held-known : inRange held ≡ true → Known held
+  held-known e = subst Known state-is (image-known img (ap inRange state-is ∙ e))
+
+  pub refused-out : outMost < bits → readImage img ≡ refusedRead 2
   unfolding soundAt
   refused-out l = refused-range (go (inRange held) refl)
     where
       go : (t : Bool) → inRange held ≡ t → inRange held ≡ false
-      go true e = absurd (let m = out-most bits (o .small)
-          (sound-facts (held .chip .audio) (state-facts held e .audio) .out) in omega arith)
+      go true e = absurd (let m = out-most bits (o .small) (held-known e .range .chip .audio .mixed) in omega arith)
       go false e = e
 
   pub accepted-state : h .detection / 2 % 8 ≤ 4 → inRange held ≡ true → readImage img ≡ record { refusal = 0; state = held }

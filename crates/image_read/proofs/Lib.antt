@@ -3,6 +3,7 @@ pub mod Fields
 pub mod Parts
 pub mod Sections
 pub mod Out
+pub mod Known
 pub mod Accepted
 pub mod Values
 pub mod States

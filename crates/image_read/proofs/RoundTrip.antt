@@ -1,7 +1,7 @@
 -- The image's promises: "Reading what a state in range was written to gives that state, and writing what an accepted image was read to
 -- gives the same 307 bytes", and an image is accepted exactly where it has `imageBytes` bytes and its fields are in range.
-use mathlib.Core.Path.{_≡_, refl, sym, ap, ap₂, _∙_}
-use mathlib.Core.Bool.{Bool, true, false, _&&_}
+use mathlib.Core.Path.{_≡_, refl, sym, ap, ap₂, _∙_, subst}
+use mathlib.Core.Bool.{true, _&&_}
 use mathlib.Core.List.{List}
 use Prim.Native.Nat.{ℕ}
 use native.Mathlib.Omega.{arith}
@@ -14,15 +14,18 @@ use Rattle.bits.proofs.Fields.{fit-unpack}
 use Rattle.bits.proofs.RoundTrip.{fields-back, bytes-back}
 use Rattle.bits.proofs.words.Laws.{length-bytes}
 use Rattle.board_state.specs.declared.State.{State}
-use Rattle.board_state.specs.State.{inRange}
+use Rattle.board_state.specs.State.{inRange, Known}
+use Rattle.board_state.proofs.Range.{known-passes}
+use Rattle.memory.specs.Range.{Bytes}
 use Rattle.limits.proofs.Every.{and-left, and-right, was-true}
 use Rattle.call_refusals.specs.Refusals.{firstOf}
-use Rattle.call_refusals.proofs.Laws.{accepted-none}
+use Rattle.call_refusals.proofs.Laws.{accepted-none, number-is}
 use Rattle.image_write.specs.Image.{imageBytes, part, partWidths, partFields, widths, fields, imageOf}
 use Rattle.image_write.proofs.Whole.{total-widths}
-use Rattle.image_read.specs.Reading.{cutInto, stateOf, fieldsOk, fieldsOf, readChecks, readImage}
-use Rattle.image_read.specs.Typed.{Bytes, Typed}
+use Rattle.image_read.specs.declared.reading.ReadImage.{ReadImage}
+use Rattle.image_read.specs.Reading.{cutInto, stateOf, fieldsOk, fieldsOf, readChecks, refusedRead, readImage}
 use Rattle.image_read.proofs.Accepted.{accepted}
+use Rattle.image_read.proofs.Known.{image-known}
 use Rattle.image_read.proofs.Parts.{fit-joined, same-lengths}
 use Rattle.image_read.proofs.Sections.{cut-joined}
 use Rattle.image_read.proofs.States.{state-back, state-fits, fields-num}
@@ -32,11 +35,7 @@ use Rattle.image_read.proofs.Values.{mirroring-most}
 
 refusal-is : (img : List ℕ) → readImage img .refusal ≡ firstOf (readChecks img)
 unfolding readImage
-refusal-is img = go (eqb (firstOf (readChecks img)) 0) refl
-  where
-    go : (t : Bool) → eqb (firstOf (readChecks img)) 0 ≡ t → readImage img .refusal ≡ firstOf (readChecks img)
-    go true e = rw e (sym (eqb-true (firstOf (readChecks img)) 0 e))
-    go false e = rw e
+refusal-is img = number-is (readChecks img) refusedRead _ (λ (r : ReadImage). r .refusal) refl (λ q. refl)
 
 -- an accepted image has `imageBytes` bytes and fields in range
 pub accepted-in-range : (img : List ℕ) → readImage img .refusal ≡ 0 → (length img ≡ imageBytes) × (fieldsOk (fieldsOf img) ≡ true)
@@ -48,12 +47,20 @@ accepted-in-range img e =
 pub in-range-accepted : (img : List ℕ) → length img ≡ imageBytes → fieldsOk (fieldsOf img) ≡ true → readImage img .refusal ≡ 0
 in-range-accepted img l e = ap (λ r. r .refusal) (accepted img l e)
 
+-- the state of an accepted image is known: its fields fit their widths, and it is in range
+pub read-known : (img : List ℕ) → readImage img .refusal ≡ 0 → Known (readImage img .state)
+unfolding fieldsOk
+read-known img e =
+    let h = accepted-in-range img e in
+    let m = leb (getD (part (cutInto partWidths (fieldsOf img)) 1) 1 0) 4 in
+    subst (λ r. Known (r .state)) (sym (accepted img (h .0) (h .1))) (image-known img (and-right m _ (h .1)))
+
 -- ---- a state, its image, and that state again
 
-module _ (s : State) (t : Typed s) (e : inRange s ≡ true) where
+module _ (s : State) (k : Known s) where
   fits : Fit widths (fields s)
   unfolding widths fields
-  fits = fit-joined partWidths (partFields s) (state-fits s t e)
+  fits = fit-joined partWidths (partFields s) (state-fits s k)
 
   fields-are : fieldsOf (imageOf s) ≡ fields s
   unfolding fieldsOf imageOf
@@ -61,24 +68,24 @@ module _ (s : State) (t : Typed s) (e : inRange s ≡ true) where
 
   cut : cutInto partWidths (fields s) ≡ partFields s
   unfolding fields
-  cut = cut-joined partWidths (partFields s) (same-lengths partWidths (partFields s) (state-fits s t e))
+  cut = cut-joined partWidths (partFields s) (same-lengths partWidths (partFields s) (state-fits s k))
 
   state : stateOf (fieldsOf (imageOf s)) ≡ s
   unfolding stateOf
-  state = ap stateOf fields-are ∙ rw cut (state-back s t e)
+  state = ap stateOf fields-are ∙ rw cut (state-back s k)
 
   ok : fieldsOk (fieldsOf (imageOf s)) ≡ true
   unfolding fieldsOk
   ok =
       ap₂ (λ (p : List (List ℕ)) (x : State). leb (getD (part p 1) 1 0) 4 && inRange x)
       (ap (cutInto partWidths) fields-are ∙ cut) state
-      ∙ rw (le-leb _ 4 (mirroring-most (s .chip .mirroring)), e)
+      ∙ rw (le-leb _ 4 (mirroring-most (s .chip .mirroring)), known-passes s k)
 
   long : length (imageOf s) ≡ imageBytes
   unfolding imageOf
   long = length-bytes imageBytes (pack widths (fields s))
 
-  -- reading what a state in range was written to gives that state
+  -- reading what a known state was written to gives that state
   pub read-written : readImage (imageOf s) ≡ record { refusal = 0; state = s }
   read-written = accepted (imageOf s) long ok ∙ (λ i. record { refusal = 0; state = state i })
 
@@ -91,7 +98,7 @@ again img b l e =
     let vs = fieldsOf img in
     let m = leb (getD (part (cutInto partWidths vs) 1) 1 0) 4 in
     ap (λ (x : List ℕ). bytesOf imageBytes (pack widths x))
-    (fields-num vs (fit-unpack widths (wordOf img)) (and-right m _ e) (leb-true _ 4 (and-left m _ e)))
+    (fields-num vs (fit-unpack widths (wordOf img)) (image-known img (and-right m _ e)) (leb-true _ 4 (and-left m _ e)))
     ∙ bytes-back widths imageBytes total-widths img l b
 
 -- writing what an accepted image was read to gives the same bytes

@@ -1,11 +1,10 @@
 -- Both ways between a state and its fields.
-use mathlib.Core.Path.{_≡_, refl, sym, ap, _∙_}
-use mathlib.Core.Bool.{true, false}
+use mathlib.Core.Path.{_≡_, refl, sym, _∙_, subst}
+use mathlib.Core.Bool.{false}
 use mathlib.Core.List.{List, [], _∷_, map}
-use mathlib.Core.Logic.{_⊎_, inl, inr}
+use mathlib.Core.Logic.{inl, inr}
 use Prim.Native.Nat.{ℕ, zero, suc, _*_, _^_, _≤_, _<_}
 use native.Mathlib.Omega.{arith}
-use borrow.Author.Tests.{ltb-true}
 use lib.Dec.{eqb}
 use lib.Ieee.{nan, binary32}
 use lib.Ieee.Bits.{ofBits-toBits}
@@ -21,51 +20,47 @@ use Rattle.board_chip.specs.declared.namco163.Board.the-variants.{Unknown, Namc
 use Rattle.board_chip.specs.Namco163.{boardNum}
 use Rattle.sound.specs.Levels.{whole}
 use Rattle.board_state.specs.declared.State.{State}
-use Rattle.sound.specs.Range.{outputTest, phaseTest, levelOk}
-use Rattle.board_state.specs.State.{inRange}
-use Rattle.limits.specs.Every.{every}
-use Rattle.limits.specs.Limits.{phaseLimit, usedMost}
-use Rattle.limits.proofs.Every.{every-at}
-use Rattle.memory.proofs.Laws.Range.{memory-in}
+use Rattle.sound.specs.Range.{Level, Levels}
+use Rattle.board_state.specs.State.{Known}
+use Rattle.limits.specs.Limits.{usedMost, prgEntries, chrEntries}
+use Rattle.memory.specs.declared.layout.Layout.{Layout}
+use Rattle.memory.specs.Range.{UsedIn}
 use Rattle.image_write.specs.Image.{part, joined, partWidths, partFields, levelNum, pageWidths, pageFields, layoutWidths, widths, fields}
 use Rattle.image_write.specs.Pages.{PagesFit}
-use Rattle.image_write.proofs.Levels.{level-facts, out-facts}
+use Rattle.image_write.proofs.Levels.{level-small}
 use Rattle.image_write.proofs.Parts.{_then_, fit-replicate}
-use Rattle.image_write.proofs.Ranges.{state-facts, sound-facts, bank-at, prg-at, chr-at}
+use Rattle.image_write.proofs.pages.Laws.{prg-fit, chr-fit}
 use Rattle.image_read.specs.Reading.{isSet, cutInto, stateFrom, stateOf}
-use Rattle.image_read.specs.Typed.{Typed}
 use Rattle.image_read.proofs.Out.{out-back}
 use Rattle.image_read.proofs.Parts.{FitParts, fit-cut, joined-cut, fit-get}
 use Rattle.image_read.proofs.Values.{bit-back, is-set-back, board-back, board-num, mirroring-back, mirroring-most, mirroring-num}
 use Rattle.image_read.proofs.Values.{level-back, level-num, map-back, pages-back, pages-num}
 
-used-back : (u : ℕ) (b : ℕ) → (u ≡ 0) ⊎ ((u ≡ usedMost) × (1 ≤ b)) → usedMost * bit (eqb u usedMost) ≡ u
-used-back u b (inl e) = rw e
-used-back u b (inr h) = rw (h .0)
+used-back : (u : ℕ) (l : Layout) → UsedIn u l → usedMost * bit (eqb u usedMost) ≡ u
+used-back u l (inl e) = rw e
+used-back u l (inr h) = rw (h .0)
 
 -- ---- a state in range comes back from its fields
 
-module _ (s : State) (t : Typed s) (e : inRange s ≡ true) where
+module _ (s : State) (k : Known s) where
   pub state-back : stateFrom (partFields s) ≡ s
   unfolding stateFrom
   state-back =
       let n = s .chip in
       let a = n .audio in
       let m = s .memory in
-      let f = state-facts s e in
-      let g = sound-facts a (f .audio) in
-      let r = memory-in m (f .memory) in
-      let lo = t .sound .typed .«outputs-length» in
+      let t = k .typed in
+      let r = k .range .memory in
+      let lo = t .chip .audio .«outputs-length» in
       let flags = map-back bit isSet false (n .«nt_bank_enable») (λ i l. bit-back (getD (n .«nt_bank_enable») i false)) in
       let outs = map-back levelNum whole nan (a .«channel_out»)
-      (λ i l. level-back (getD (a .«channel_out») i nan) (t .sound .«outputs-fit» i)
-      (every-at 8 (outputTest (a .«channel_out»)) (g .outputs) i (omega (arith, lo)))) in
-      let out = ofBits-toBits binary32 (a .out) (t .sound .typed .«out-fits») in
+      (λ i l. level-back (getD (a .«channel_out») i nan) (k .range .chip .audio .outputs i (omega (arith, lo)))) in
+      let out = ofBits-toBits binary32 (a .out) (t .chip .audio .«out-fits») in
       let prg = pages-back (arenaPages (m .layout)) (m .«prg_pages») (t .memory .«prg-words»)
       (λ i l. r .ranged .prg i (omega (arith, t .memory .prg))) in
       let chr = pages-back (arenaPages (m .layout)) (m .«chr_pages») (t .memory .«chr-words»)
       (λ i l. r .ranged .chr i (omega (arith, t .memory .chr))) in
-      let used = used-back (m .«battery_ext_len») (m .layout .«battery_ext») (r .used) in
+      let used = used-back (m .«battery_ext_len») (m .layout) (r .used) in
       simp (bit-back, board-back, mirroring-back, flags, outs, out, used, prg, chr)
 
 -- ---- its fields fit their widths
@@ -90,36 +85,35 @@ board-lt Namco163 = omega arith
 board-lt Namco175 = omega arith
 board-lt Namco340 = omega arith
 
-module _ (s : State) (t : Typed s) (e : inRange s ≡ true) where
+module _ (s : State) (k : Known s) where
   pub state-fits : FitParts partWidths (partFields s)
   state-fits =
       let n = s .chip in
       let a = n .audio in
       let m = s .memory in
-      let c = t .chip in
-      let y = t .sound .typed in
-      let f = state-facts s e in
-      let g = sound-facts a (f .audio) in
-      let l = memory-in m (f .memory) .ranged .sized .layout in
+      let c = k .typed .chip in
+      let y = c .audio in
+      let g = k .range .chip .audio in
+      let r = k .range .memory .ranged in
+      let l = r .sized .layout in
       let outs = a .«channel_out» in
       let flags = fit-map bit false 12 1 (n .«nt_bank_enable») (c .flags) (λ i h. bit-lt (getD (n .«nt_bank_enable») i false)) in
       let chr = fit-replicate 12 8 (n .«chr_banks») (c .chr) (λ i h. c .«chr-bytes» i) in
-      let prg = fit-replicate 3 6 (n .«prg_banks») (c .prg) (λ i h. omega (arith, bank-at (n .«prg_banks») (f .banks) i h)) in
+      let prg = fit-replicate 3 6 (n .«prg_banks») (c .prg) (λ i h. omega (arith, k .range .chip .banks i)) in
       let ram = fit-replicate 128 8 (a .ram) (y .«ram-length») (λ i h. y .bytes i) in
       let levels = fit-map levelNum nan 8 12 outs (y .«outputs-length»)
-      (λ i h. omega (arith, level-facts (getD outs i nan) (every-at 8 (outputTest outs) (g .outputs) i h) .small)) in
-      let phases = fit-replicate 8 24 (a .«phase_ext») (y .«phases-length»)
-      (λ i h. ltb-true (getD (a .«phase_ext») i 0) phaseLimit (every-at 8 (phaseTest (a .«phase_ext»)) (g .phases) i h)) in
-      let prgs = fit-pages 64 (m .«prg_pages») (t .memory .prg) (prg-at m (f .memory)) in
-      let chrs = fit-pages 16 (m .«chr_pages») (t .memory .chr) (chr-at m (f .memory)) in
+      (λ i h. omega (arith, level-small (getD outs i nan) (g .outputs i h))) in
+      let phases = fit-replicate 8 24 (a .«phase_ext») (y .«phases-length») (λ i h. g .phases i) in
+      let prgs = fit-pages prgEntries (m .«prg_pages») (k .typed .memory .prg) (prg-fit m r) in
+      let chrs = fit-pages chrEntries (m .«chr_pages») (k .typed .memory .chr) (chr-fit m r) in
       (c .counter then bit-lt (n .regs .«irq_pending») then bit-lt (n .regs .«nt_select_lo») then bit-lt (n .regs .«nt_select_hi»)
       then c .protect then board-lt (n .board) then c .mapper then c .submapper then tt)
       then (bit-lt (n .«auto_detect_board») then omega (arith, mirroring-most (n .mirroring)) then bit-lt (n .«prg_ram_written_to»)
       then tt)
       then flags then chr then prg then ram
-      then (omega (arith, g .addr) then bit-lt (a .«auto_increment») then bit-lt (a .disabled) then omega (arith, g .counter)
+      then (omega (arith, g .address) then bit-lt (a .«auto_increment») then bit-lt (a .disabled) then omega (arith, g .counter)
       then omega (arith, g .channel) then tt)
-      then levels then (omega (arith, out-facts (a .out) (g .out) .bits) then tt) then phases then prgs then chrs
+      then levels then (omega (arith, g .mixed .bits) then tt) then phases then prgs then chrs
       then (omega (arith, l .prgRom) then omega (arith, l .prgRam) then omega (arith, l .battery) then omega (arith, l .chr)
       then bit-lt (m .layout .«chr_writable») then omega (arith, l .ciram) then bit-lt (eqb (m .«battery_ext_len») usedMost) then tt)
       then tt
@@ -135,7 +129,7 @@ used-num zero h = refl
 used-num (suc zero) h = refl
 used-num (suc (suc v)) h = absurd (let z : ⊥ = omega arith in z)
 
-module _ (vs : List ℕ) (f : Fit widths vs) (ok : inRange (stateOf vs) ≡ true)
+module _ (vs : List ℕ) (f : Fit widths vs) (k : Known (stateOf vs))
     (mirroring : getD (part (cutInto partWidths vs) 1) 1 0 ≤ 4) where
   pub fields-num : fields (stateOf vs) ≡ vs
   unfolding stateOf stateFrom cutInto fields widths
@@ -143,7 +137,7 @@ module _ (vs : List ℕ) (f : Fit widths vs) (ok : inRange (stateOf vs) ≡ true
       let ps = cutInto partWidths vs in
       let fp = fit-cut partWidths vs f in
       let s = stateFrom ps in
-      let g = sound-facts (s .chip .audio) (state-facts s ok .audio) in
+      let g = k .range .chip .audio in
       let p0 = part ps 0 in let w0 = part partWidths 0 in let f0 = fp .0 in
       let regs : part (partFields s) 0 ≡ p0 =
       rw (
@@ -172,10 +166,10 @@ module _ (vs : List ℕ) (f : Fit widths vs) (ok : inRange (stateOf vs) ≡ true
       (level-of p7 (g .outputs) i (omega (arith, fit-length (part partWidths 7) p7 f7)) h)) in
       let p8 = part ps 8 in let w8 = part partWidths 8 in let f8 = f6-on .1 .1 .0 in
       let out : part (partFields s) 8 ≡ p8 =
-      rw (out-back (getD p8 0 0) (fit-get w8 p8 f8 0 (omega arith)) (g .out)) (listed-is 0 1 p8 (sym (fit-length w8 p8 f8))) in
+      rw (out-back (getD p8 0 0) (fit-get w8 p8 f8 0 (omega arith)) (g .mixed)) (listed-is 0 1 p8 (sym (fit-length w8 p8 f8))) in
       let f10-on = f6-on .1 .1 .1 .1 in
-      let prg = pages-num 64 (part ps 10) (f10-on .0) in
-      let chr = pages-num 16 (part ps 11) (f10-on .1 .0) in
+      let prg = pages-num prgEntries (part ps 10) (f10-on .0) in
+      let chr = pages-num chrEntries (part ps 11) (f10-on .1 .0) in
       let p12 = part ps 12 in let f12 = f10-on .1 .1 .0 in
       let layout : part (partFields s) 12 ≡ p12 =
       rw (
@@ -187,6 +181,5 @@ module _ (vs : List ℕ) (f : Fit widths vs) (ok : inRange (stateOf vs) ≡ true
       ∷ port i ∷ levels i ∷ out i ∷ part ps 9 ∷ prg i ∷ chr i ∷ layout i ∷ []) in
       all ∙ joined-cut partWidths vs f
     where
-      level-of : (p : List ℕ) → every 8 (outputTest (map whole p)) ≡ true → (i : ℕ) → i < 8 → i < length p
-          → levelOk (whole (getD p i 0)) ≡ true
-      level-of p o i h l = ap levelOk (sym (getD-map whole p i 0 nan l)) ∙ every-at 8 (outputTest (map whole p)) o i h
+      level-of : (p : List ℕ) → Levels (map whole p) → (i : ℕ) → i < 8 → i < length p → Level (whole (getD p i 0))
+      level-of p o i h l = subst Level (getD-map whole p i 0 nan l) (o i h)

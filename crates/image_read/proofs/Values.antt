@@ -1,6 +1,6 @@
 -- Both ways between what a state holds and its fields' values, element by element.
-use mathlib.Core.Path.{_≡_, refl, sym, ap, ap₂, _∙_}
-use mathlib.Core.Bool.{Bool, true, false}
+use mathlib.Core.Path.{_≡_, refl, sym, ap, ap₂, _∙_, subst}
+use mathlib.Core.Bool.{Bool, true, false, cond}
 use mathlib.Core.List.{List, [], _∷_, map}
 use Prim.Native.Nat.{ℕ, zero, suc, _+_, _*_, _^_, _/_, _%_, _≤_, _<_}
 use native.Mathlib.Omega.{arith}
@@ -22,11 +22,11 @@ use Rattle.memory.specs.declared.mirroring.Mirroring.the-variants.{Vertical, Ho
 use Rattle.memory.specs.declared.page.Page.{Page}
 use Rattle.memory.specs.Mirroring.{mirroringNum}
 use Rattle.memory.specs.Range.{EntryIn}
-use Rattle.memory.specs.Page.{pick, unmapped, pageOf, offsetOf, writableOf}
+use Rattle.memory.specs.Page.{unmapped, pageOf, offsetOf, writableOf}
 use Rattle.sound.specs.Levels.{whole}
-use Rattle.sound.specs.Range.{levelOk}
+use Rattle.sound.specs.Range.{Level}
 use Rattle.image_write.specs.Image.{levelNum, pageWidths, pageFields}
-use Rattle.image_write.proofs.Levels.{level-facts}
+use Rattle.image_write.proofs.Levels.{level-small, level-same}
 use Rattle.image_read.specs.Reading.{isSet, boardNumbered, mirroringNumbered, pagesOf}
 
 -- ---- one element
@@ -73,21 +73,21 @@ mirroring-num (suc (suc (suc zero))) h = refl
 mirroring-num (suc (suc (suc (suc zero)))) h = refl
 mirroring-num (suc (suc (suc (suc (suc v))))) h = absurd (let z : ⊥ = omega arith in z)
 
-pub level-back : (x : Float) → T (fits binary32 x) → levelOk x ≡ true → whole (levelNum x) ≡ x
-level-back x f e =
+pub level-back : (x : Float) → Level x → whole (levelNum x) ≡ x
+level-back x l =
     sym (ofBits-toBits binary32 (whole (levelNum x)) (ofInt-fits binary32 (pos (levelNum x))))
-    ∙ ap (ofBits binary32) (level-facts x e .same)
-    ∙ ofBits-toBits binary32 x f
+    ∙ ap (ofBits binary32) (level-same x l)
+    ∙ ofBits-toBits binary32 x (subst (λ (y : Float). T (fits binary32 y)) (sym (l .is)) (ofInt-fits binary32 (pos (l .size))))
 
 -- whole numbers up to 2 ^ 24 are floats
 whole-back : (n : ℕ) → n ≤ 2 ^ 24 → toUnsigned 32 (whole n) ≡ n
 unfolding inFloat
 whole-back n h = unsigned-back binary32 32 n (le→leb n (2 ^ 24) h) (omega arith) .1
 
-pub level-num : (n : ℕ) → n < 4096 → levelOk (whole n) ≡ true → levelNum (whole n) ≡ n
-level-num n h e =
-    sym (whole-back (levelNum (whole n)) (omega (arith, level-facts (whole n) e .small)))
-    ∙ ap (toUnsigned 32) (level-back (whole n) (ofInt-fits binary32 (pos n)) e)
+pub level-num : (n : ℕ) → n < 4096 → Level (whole n) → levelNum (whole n) ≡ n
+level-num n h l =
+    sym (whole-back (levelNum (whole n)) (omega (arith, level-small (whole n) l)))
+    ∙ ap (toUnsigned 32) (level-back (whole n) l)
     ∙ whole-back n (omega arith)
 
 pub page-back : (n : ℕ) (p : Page) → p .0 < 2 ^ 32 → EntryIn n p → pageOf (1024 * (offsetOf p / 1024)) (isSet (bit (writableOf p)))
@@ -112,7 +112,7 @@ page-back n p h e =
     zero-of (suc (suc k)) l n = absurd (let z : ⊥ = omega arith in z)
 
     go : (p .0 / 2 ^ 30 % 2 ≡ 1 → ⊥) → p .0 % 2 ^ 30 % 1024 ≡ 0 → (w : Bool) → writableOf p ≡ w
-        → pick w (2 ^ 31) 0 + 1024 * (offsetOf p / 1024) % 2 ^ 30 ≡ p .0
+        → cond w (2 ^ 31) 0 + 1024 * (offsetOf p / 1024) % 2 ^ 30 ≡ p .0
     go c s true q =
         let z = zero-of (p .0 / 2 ^ 30 % 2) (omega arith) c in
         ap (λ (x : ℕ). 2 ^ 31 + x) (start s) ∙ omega (arith, bits 0 1 z (eqb-true (p .0 / 2 ^ 31 % 2) 1 q))

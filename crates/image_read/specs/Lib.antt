@@ -2,4 +2,3 @@
 pub mod Reading
 pub mod Sections
 pub mod Pages
-pub mod Typed

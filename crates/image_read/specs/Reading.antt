@@ -21,7 +21,7 @@ use Rattle.board_chip.specs.declared.namco163.Namco163.{Namco163}
 use Rattle.board_chip.specs.declared.namco163.Regs.{Regs}
 use Rattle.board_state.specs.declared.State.{State}
 use Rattle.board_state.specs.State.{inRange}
-use Rattle.call_refusals.specs.Refusals.{Check, firstOf, ifAccepted}
+use Rattle.call_refusals.specs.Refusals.{Check, unlessRefused}
 use Rattle.board_state.specs.None.{noState}
 use Rattle.image_read.specs.declared.reading.ReadImage.{ReadImage}
 use Rattle.image_write.specs.Image.{part, partWidths, widths}
@@ -156,7 +156,8 @@ abbrev pub readChecks : List ℕ → List Check
 readChecks img = imageCheck (length img) ∷ fieldsCheck (fieldsOf img) ∷ []
 
 -- a refused read was given no state: it answers the one that a refused load answers
+abbrev pub refusedRead : ℕ → ReadImage
+refusedRead q = record { refusal = q; state = noState }
+
 unfoldable pub readImage : List ℕ → ReadImage
-readImage img =
-    let q = firstOf (readChecks img) in
-    ifAccepted q (record { refusal = 0; state = stateOf (fieldsOf img) }) (record { refusal = q; state = noState })
+readImage img = unlessRefused (readChecks img) refusedRead (record { refusal = 0; state = stateOf (fieldsOf img) })

@@ -8,6 +8,7 @@ ghost use mathlib.Core.List.{[], _∷_};
 ghost use Prim.Native.Nat.{_+_, _-_, _*_, _/_, _%_, _^_, _<_, _≤_};
 ghost use lib.ListN.{length};
 ghost use Rattle.bits.specs.Fields.{times};
+ghost use Rattle.limits.specs.Limits.{prgEntries, chrEntries};
 ghost use Rattle.memory.specs.Page.{pageOf};
 ghost use Rattle.bits.specs.Cursor.{Read};
 ghost use Rattle.image_write.specs.Image.{imageBytes, pageWidths, byteAt};
@@ -63,7 +64,7 @@ fn eight_of(w: Eight) -> [Page; 8]
 
 pub fn get_prg_pages(img: &[u8]) -> [Page; 64]
     requires { ⌜ length (now img) ≡ imageBytes ⌝ }
-    ensures { λ r. ⌜ r ≡ pagesOf (fieldsAt (times 64 pageWidths) (now (img .entry)) prgPagesAt (chrPagesAt - prgPagesAt)) ⌝ }
+    ensures { λ r. ⌜ r ≡ pagesOf (fieldsAt (times prgEntries pageWidths) (now (img .entry)) prgPagesAt (chrPagesAt - prgPagesAt)) ⌝ }
 {
     let page = Page::UNMAPPED;
     let mut pages = [page; 64];
@@ -94,7 +95,7 @@ pub fn get_prg_pages(img: &[u8]) -> [Page; 64]
 
 pub fn get_chr_pages(img: &[u8]) -> [Page; 16]
     requires { ⌜ length (now img) ≡ imageBytes ⌝ }
-    ensures { λ r. ⌜ r ≡ pagesOf (fieldsAt (times 16 pageWidths) (now (img .entry)) chrPagesAt (layoutAt - chrPagesAt)) ⌝ }
+    ensures { λ r. ⌜ r ≡ pagesOf (fieldsAt (times chrEntries pageWidths) (now (img .entry)) chrPagesAt (layoutAt - chrPagesAt)) ⌝ }
 {
     let page = Page::UNMAPPED;
     let mut pages = [page; 16];

@@ -15,7 +15,7 @@ use bits::words::load;
 use board_chip::namco163::Namco163;
 use board_state::State;
 use board_state::in_range;
-use call_load::no_state;
+use board_state::none::no_state;
 use image_write::sections::CHIP_AT;
 use image_write::sections::IMAGE_BYTES;
 use image_write::sections::LAYOUT_AT;
@@ -35,10 +35,9 @@ ghost use Prim.Native.Nat.{ℕ, _-_, _*_, _/_, _%_, _<_, _≤_};
 ghost use lib.ListN.{length, getD, replicate};
 ghost use Rattle.limits.specs.Limits.{outMost};
 ghost use Rattle.sound.specs.Levels.{whole};
-ghost use Rattle.board_state.specs.None.{noState};
 ghost use Rattle.image_write.specs.Image.{imageBytes, chipWidths, joined};
 ghost use Rattle.image_write.specs.Sections.{chipAt, ramAt, portAt, levelsAt, outAt, phasesAt, prgPagesAt};
-ghost use Rattle.image_read.specs.Reading.{readImage};
+ghost use Rattle.image_read.specs.Reading.{refusedRead, readImage};
 ghost use Rattle.image_read.specs.Sections.{fieldsAt, headParts, HeadFits, chipOf, soundAt, memoryAt};
 
 // What a read answers. Where it is refused, the state is one that no call accepts.
@@ -215,7 +214,7 @@ fn read_memory(img: &[u8]) -> Memory
 
 // A refused read.
 fn refused(number: u8) -> ReadImage
-    ensures { λ r. ⌜ r ≡ record { refusal = number; state = noState } ⌝ }
+    ensures { λ r. ⌜ r ≡ refusedRead number ⌝ }
 {
     let none = no_state();
     ReadImage {

@@ -4,4 +4,5 @@ pub mod Refused
 pub mod Calls
 pub mod Lists
 pub mod Runs
+pub mod Images
 pub mod Numbers

@@ -36,8 +36,8 @@ returns-4 : tie.Need-returns-4
 returns-4 c =
     let tested = c .before in let read = tested .before in let below = read .before in
     let s = read .read-fields .ensures in
-    rw s
-    (sym (accepted-state _ _ _ (opened (below .before .before .before)) (below .if3 .left) (rw s at (sym (tested .in-range .ensures) ∙ c .if4 .taken))))
+    let ok = rw s at (sym (tested .in-range .ensures) ∙ c .if4 .taken) in
+    rw s (sym (accepted-state _ _ _ (opened (below .before .before .before)) (below .if3 .left) ok))
 
 returns-5 : tie.Need-returns-5
 returns-5 c =
