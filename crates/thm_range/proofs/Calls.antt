@@ -162,7 +162,8 @@ unfolding checks
 sync-fits h f e =
     let g = battery-good (h .state) (length (h .arena)) e in
     let y = f .known .typed .chip .audio in
-    fit-arena h _ (overlay-whole (h .arena) _ (h .state .chip .audio .ram) (omega (arith, g .inside, y .«ram-length»)) (y .bytes) (f .bytes)) f
+    let at = regionIn (h .state .memory) BatteryExt .start in
+    fit-arena h _ (overlay-whole (h .arena) at (h .state .chip .audio .ram) (omega (arith, g .inside, y .«ram-length»)) (y .bytes) (f .bytes)) f
 
 restore-fits : (h : Held) → Fit h → firstOf (checks restoreBattery h) ≡ 0
     → let n = h .state .chip in

@@ -49,12 +49,12 @@ AllClear k (c ∷ cs) = Clear k c × AllClear k cs
 not-first : (k : ℕ) → (0 ≡ k → ⊥) → (cs : List Check) → AllClear k cs → firstOf cs ≡ k → ⊥
 unfolding firstOf
 not-first k z [] a e = z e
-not-first k z (c ∷ cs) a e = go (a .0) (c .holds) refl e
+not-first k z (c ∷ cs) a e = go (a .0) (not-first k z cs (a .1)) (c .holds) refl e
   where
-    go : Clear k c → (t : Bool) → c .holds ≡ t → cond t (c .number) (firstOf cs) ≡ k → ⊥
-    go x false q e = not-first k z cs (a .1) e
-    go (inl n) true q e = n e
-    go (inr f) true q e = let y : _≡_ {A = ℕ} 0 1 = cc in omega arith
+    go : Clear k c → (firstOf cs ≡ k → ⊥) → (t : Bool) → c .holds ≡ t → cond t (c .number) (firstOf cs) ≡ k → ⊥
+    go x ih false q e = ih e
+    go (inl n) ih true q e = n e
+    go (inr f) ih true q e = let y : _≡_ {A = ℕ} 0 1 = cc in omega arith
 
 -- a number other than both
 neither : (k : ℕ) → (k ≡ 2) ⊎ (k ≡ 7) → (n : ℕ) → (n ≡ 2 → ⊥) → (n ≡ 7 → ⊥) → n ≡ k → ⊥

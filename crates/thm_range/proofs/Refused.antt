@@ -54,4 +54,5 @@ module _ (mapper sub flags : ℕ) (known : Bool) (sizes : MemoryLayout) (arena :
       × (loadArena mapper sizes arena ≡ arena)
   unfolding loadAnswer loadArena
   load-refused =
-      let cs = loadChecks mapper sizes (length arena) in (refused-is cs _ _ h, refused-is cs (λ q. arena) _ h)
+      let cs = loadChecks mapper sizes (length arena) in
+      (refused-is cs (λ q. record { refusal = q; state = noState }) _ h, refused-is cs (λ q. arena) _ h)
