@@ -4,6 +4,7 @@
 # make test      the gate: every proof and must-fail edit from nothing, the C calls, and the comparison with the Rust where its sources are found
 # make c-host    the header, the C calls, the README's example, the demonstration and the installed files alone
 # make promises  looks up what docs/PROMISES.md names
+# make edges     holds crates.txt and the picture of docs/ARCHITECTURE.md to the files
 # make replays   replays the recorded sessions alone
 # make compare   the comparison with the Rust alone
 # make sessions  records the sessions anew by the Rust
@@ -14,7 +15,7 @@ PREFIX ?= /usr/local
 archive := target/staticlib/libhost.a
 sources := crates.txt $(shell find crates -type f -not -path '*/must-fail/*')
 
-.PHONY: all install demo test promises c-host replays compare sessions bench fmt
+.PHONY: all install demo test edges promises c-host replays compare sessions bench fmt
 all: $(archive)
 
 $(archive): $(sources)
@@ -37,6 +38,9 @@ c-host: $(archive)
 
 promises:
 	@scripts/promises
+
+edges:
+	@scripts/edges
 
 replays:
 	@scripts/replays

@@ -64,7 +64,8 @@ fn map_slots(chip: Namco163, m: Memory, n: u16) -> Memory
     out
 }
 
-// On a 163 the nametables are slots like the others; elsewhere they come from the mirroring.
+// On a 163 the nametables are slots like the others, each CHR or CIRAM, so that the board says patterns and nametables in one way. A 210 has no registers for
+// them: they are wired on a 175 and come from E000 on a 340.
 fn map_chr_table(chip: Namco163, m: Memory) -> Memory
     requires { ⌜ Sized m ⌝ }
     ensures { λ r. ⌜ (r ≡ mapChrTable chip m) × (Sized r) ⌝ }
@@ -109,6 +110,7 @@ fn map_work_ram(chip: Namco163, m: Memory) -> Memory
     unmap_prg(m, 0x6000, Namco163::PRG_WINDOW)
 }
 
+// Detection changes how many slots there are and whether work RAM is mapped, so every table is made anew from the registers.
 pub fn update_banks(chip: Namco163, m: Memory) -> Memory
     requires { ⌜ Sized m ⌝ }
     ensures { λ r. ⌜ r ≡ updateBanks chip m ⌝ }

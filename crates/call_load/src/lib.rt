@@ -30,7 +30,7 @@ fn clear(arena: &mut [u8])
     }
 }
 
-// Only the 163 has the sound chip, and so the sound RAM that the battery covers.
+// Only the 163 has the sound chip, and so the sound RAM that the battery covers; a 175 and a 340 are mapper 210, which reserves nothing.
 fn memory_at_load(mapper: u64, sizes: MemoryLayout) -> Memory
     requires { ⌜ withinLimits sizes ≡ true ⌝ }
     ensures { λ r. ⌜ r ≡ memoryAtLoad mapper sizes ⌝ }

@@ -141,9 +141,6 @@ fill-good s len src n e =
 pub backed : (s : State) (arena : List ℕ) → Arena s (length arena) → Backed (s .memory) arena
 backed s arena h = record { ranged = memory-good s (h .good) .ranged; long = h .long }
 
-pub reset-good : (s : State) (kind : ℕ) → firstOf (resetChecks s kind) ≡ 0 → inRange s ≡ true
-reset-good s kind e = not-false (inRange s) (accepted-none (resetChecks s kind) (search needs) e .0)
-
 -- the battery's 128 bytes lie in the arena
 pub record Battery (s : State) (len : ℕ) : Type 0 where
   pub arena : Arena s len

@@ -99,35 +99,7 @@ battery-decided s len = decided _ (omega arith, (omega arith, (omega arith, tt))
 pub load-decided : (mapper : ℕ) (sizes : MemoryLayout) (len : ℕ) → Decided (loadChecks mapper sizes len)
 load-decided mapper sizes len = decided _ (omega arith, (omega arith, (omega arith, (omega arith, tt))))
 
--- ---- what a call asks, as facts: with these it is accepted
-
-pub state-accepts : (s : State) → inRange s ≡ true → firstOf (stateChecks s) ≡ 0
-unfolding firstOf
-state-accepts s r = rw r
-
-pub reset-accepts : (s : State) (kind : ℕ) → inRange s ≡ true → kind ≤ 1 → firstOf (resetChecks s kind) ≡ 0
-unfolding firstOf
-reset-accepts s kind r h = rw (r, le-ltb 1 kind h)
-
-pub arena-accepts : (s : State) (len : ℕ) → inRange s ≡ true → len ≡ arenaLen (s .memory .layout) → firstOf (arenaChecks s len) ≡ 0
-unfolding firstOf
-arena-accepts s len r l = rw (r, eq-eqb len (arenaLen (s .memory .layout)) l)
-
-pub cpu-accepts : (s : State) (len addr : ℕ) → inRange s ≡ true → len ≡ arenaLen (s .memory .layout) → 0x4800 ≤ addr
-    → firstOf (cpuChecks s len addr) ≡ 0
-unfolding firstOf
-cpu-accepts s len addr r l h = rw (r, eq-eqb len (arenaLen (s .memory .layout)) l, le-ltb addr 0x4800 h)
-
-pub fill-accepts : (s : State) (len : ℕ) (src : Src) (n : ℕ) → inRange s ≡ true → len ≡ arenaLen (s .memory .layout)
-    → n ≤ regionIn (s .memory) src .len
-    → firstOf (fillChecks s len src n) ≡ 0
-unfolding firstOf
-fill-accepts s len src n r l h = rw (r, eq-eqb len (arenaLen (s .memory .layout)) l, le-ltb (regionIn (s .memory) src .len) n h)
-
-pub battery-accepts : (s : State) (len : ℕ) → inRange s ≡ true → len ≡ arenaLen (s .memory .layout) → s .memory .«battery_ext_len» ≡ 128
-    → firstOf (batteryChecks s len) ≡ 0
-unfolding firstOf
-battery-accepts s len r l u = rw (r, eq-eqb len (arenaLen (s .memory .layout)) l, u)
+-- ---- what a load asks, as facts: with these it is accepted
 
 pub load-accepts : (mapper : ℕ) (sizes : MemoryLayout) (len : ℕ) → (mapper ≡ 19) ⊎ (mapper ≡ 210) → LoadFits mapper sizes
     → len ≡ arenaLen (layoutOf sizes)

@@ -192,8 +192,3 @@ mask-multiple (suc k) (a ∷ old) (b ∷ new) h =
     let first : b ≡ a = h 0 (omega arith) in
     let e : changed old new * 2 + 0 ≡ changed old new * 2 = omega arith in
     rw (first, eq-eqb (a .0) (a .0) refl, e) (double (changed old new) k (mask-multiple k old new (λ i l. h (suc i) (omega arith))))
-
--- "PRG mask at its own bits 24..63": no write sets a lower one
-pub mapping-mask : (n : Namco163) (m : Memory) → prgChanges (m .«prg_pages») (updateBanks n m .«prg_pages») .mask % 2 ^ 24 ≡ 0
-unfolding prgChanges
-mapping-mask n m = mask-multiple 24 (m .«prg_pages») (updateBanks n m .«prg_pages») (update-banks-kept n m .low)

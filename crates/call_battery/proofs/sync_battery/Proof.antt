@@ -24,14 +24,15 @@ battery-start-requires c κs = memory-good _ (battery-good _ _ (accepted c) .are
 
 put-battery-requires : tie.Need-put-battery-requires
 put-battery-requires c κs =
-    let c3 = c .before .before .before in
-    rw (c3 .battery-start .ensures) (battery-good _ _ (accepted (c3 .before)) .inside)
+    let found = c .before .before .before in
+    rw (found .battery-start .ensures) (battery-good _ _ (accepted (found .before)) .inside)
 
 returns-2 : tie.Need-returns-2
 unfolding syncArena
 returns-2 c =
-    let c2 = c .before .before in let c6 = c2 .before .before .before .before in
-    let e = accepted (c6 .before) in (sym e, rw (e, ← c6 .battery-start .ensures) (c2 .put-battery .ensures))
+    let put = c .before .before in
+    let found = put .before .before .before .before in
+    let e = accepted (found .before) in (sym e, rw (e, ← found .battery-start .ensures) (put .put-battery .ensures))
 
 pub sync-battery-spec : {M : Type 1} → statement M
 sync-battery-spec =

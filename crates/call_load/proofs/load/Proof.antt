@@ -27,10 +27,10 @@ good : (c : tie.Else1) → let a = c .before .before .before .args in LoadGood (
 good c = load-good _ _ _ (accepted c)
 
 cast-fresh-state : tie.Need-cast-fresh-state
-cast-fresh-state c = omega (arith, good (c .before .before .before .before) .small)
+cast-fresh-state c = let passed = c .before .before .before .before in omega (arith, good passed .small)
 
 fresh-state-requires : tie.Need-fresh-state-requires
-fresh-state-requires c κs = good (c .before .before .before .before) .fits
+fresh-state-requires c κs = let passed = c .before .before .before .before in good passed .fits
 
 returns-2 : tie.Need-returns-2
 unfolding loadAnswer loadArena

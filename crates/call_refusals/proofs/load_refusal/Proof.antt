@@ -28,20 +28,21 @@ arena-len-requires c κs =
     rw (c .new .ensures) (layout-good _ (sym (c4 .within-limits .ensures) ∙ c3 .if2 .taken))
 
 -- the checks before the length's are passed
-last : (c : tie.After-arena-len) → let a = c .before .before .before .before .before .before .before .before .args in
+last : (c : tie.After-arena-len) → let start = c .before .before .before .before .before .before .before .before in let a = start .args in
     firstOf (loadChecks (a .mapper) (a .sizes) (a .len)) ≡ cond (not (eqb (a .len) (c .arena-len .result))) 7 0
 unfolding firstOf
 last c =
-    let c1 = c .before in let c2 = c1 .before in let c3 = c2 .before in let c4 = c3 .before in let c5 = c4 .before in
-    let c6 = c5 .before in let c7 = c6 .before in
+    let made = c .before in let kept = made .before in let reserve = kept .before in
+    let within = reserve .before in let limits = within .before in
+    let loads = limits .before in let mapper = loads .before in
     rw (
-      ← c7 .mapper-ok .ensures,
-      c6 .if1 .taken,
-      ← c5 .within-limits .ensures,
-      c4 .if2 .taken,
-      ← c3 .lacks-reserve .ensures,
-      c2 .if3 .left,
-      ← c1 .new .ensures,
+      ← mapper .mapper-ok .ensures,
+      loads .if1 .taken,
+      ← limits .within-limits .ensures,
+      within .if2 .taken,
+      ← reserve .lacks-reserve .ensures,
+      kept .if3 .left,
+      ← made .new .ensures,
       ← c .arena-len .ensures .0,
     )
 

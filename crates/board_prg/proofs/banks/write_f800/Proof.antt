@@ -12,14 +12,20 @@ returns c = rw (← c .before .before .maybe-set-board .ensures, ← c .before .
 
 write-register-requires : tie.Need-write-register-requires
 write-register-requires c κs =
-    let c4 = c .before .before .before .before in let c5 = c4 .before in
-    rw (c4 .maybe-set-board .ensures, maybe-audio) (c5 .pre)
+    let detected = c .before .before .before .before in
+    rw (detected .maybe-set-board .ensures, maybe-audio) (detected .before .pre)
 
 returns-2 : tie.Need-returns-2
 unfolding writeF800
 returns-2 c =
-    let c3 = c .before .before .before in let c4 = c3 .before in let c5 = c4 .before in
-    rw (← c5 .maybe-set-board .ensures, ← c4 .is-163 .ensures, not-false (c4 .is-163 .result) (c3 .if1 .left), c .write-register .ensures)
+    let is = c .before .before .before in
+    let tested = is .before in
+    rw (
+      ← tested .before .maybe-set-board .ensures,
+      ← tested .is-163 .ensures,
+      not-false (tested .is-163 .result) (is .if1 .left),
+      c .write-register .ensures,
+    )
 
 pub write-f800-spec : {M : Type 1} → statement M
 write-f800-spec =

@@ -31,15 +31,17 @@ prg-write-requires c κs = backed _ _ (good (c .before .before))
 
 write-register-requires : tie.Need-write-register-requires
 write-register-requires c κs =
-    let c5 = c .before .before .before .before .before in
-    let g = good c5 .good in (port-good _ g, memory-good _ g .ranged .sized)
+    let passed = c .before .before .before .before .before in
+    let g = good passed .good in (port-good _ g, memory-good _ g .ranged .sized)
 
 returns-2 : tie.Need-returns-2
 unfolding cpuWrite cpuWriteArena
 returns-2 c =
-    let c2 = c .before .before in let c5 = c2 .before .before .before in let c8 = c5 .before .before .before in (
-      rw (accepted c8, c .changes-between .ensures, c2 .write-register .ensures),
-      rw (accepted c8) (c5 .prg-write .ensures),
+    let written = c .before .before in
+    let stored = written .before .before .before in
+    let passed = stored .before .before .before in (
+      rw (accepted passed, c .changes-between .ensures, written .write-register .ensures),
+      rw (accepted passed) (stored .prg-write .ensures),
     )
 
 pub cpu-write-known-spec : {M : Type 1} → statement M

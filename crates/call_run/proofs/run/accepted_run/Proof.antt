@@ -14,45 +14,40 @@ use Rattle.call_run.proofs.run.accepted_run.Tie as tie
 returns : tie.Need-returns
 unfolding runGave
 returns c =
-    let c1 = c .before in let c3 = c1 .before .before in let c7 = c3 .before .before .before .before in
-    let a = c7 .args in let p = sym (c1 .is-163 .ensures) ∙ not-true (c1 .is-163 .result) (c .if1 .taken) in (
-      rw (
-        c7 .pre,
-        silent-state (a .n) (a .s) p,
-        silent-samples (a .n) (a .s) p,
-        rise-is (a .n) (a .s),
-        c3 .run-counter .ensures .0,
-        c3 .run-counter .ensures .1,
-      ),
-      rw (c7 .pre, silent-samples (a .n) (a .s) p),
+    let test = c .before in let counted = test .before .before in let ran = counted .run-counter .ensures in
+    let start = counted .before .before .before .before in let a = start .args in
+    let p = sym (test .is-163 .ensures) ∙ not-true (test .is-163 .result) (c .if1 .taken) in (
+      rw (start .pre, silent-state (a .n) (a .s) p, silent-samples (a .n) (a .s) p, rise-is (a .n) (a .s), ran .0, ran .1),
+      rw (start .pre, silent-samples (a .n) (a .s) p),
     )
 
-is-163 : (c : tie.Else1) → is163 (c .before .before .before .before .before .before .before .args .s .chip .board) ≡ true
+is-163 : (c : tie.Else1) → let start = c .before .before .before .before .before .before .before in is163 (start .args .s .chip .board) ≡ true
 is-163 c = sym (c .before .is-163 .ensures) ∙ not-false (c .before .is-163 .result) (c .if1 .left)
 
 run-sound-requires : tie.Need-run-sound-requires
 run-sound-requires c κs =
-    let c2 = c .before .before in let c9 = c2 .before .before .before .before .before .before .before in
-    let a = c9 .args in let g = run-good (a .s) (a .n) (length (a .samples .now)) (c9 .pre) in
-    (sound-ok (a .s) (g .good), rw (← sounds-samples (a .n) (a .s) (is-163 c2)) (g .enough))
+    let is = c .before .before in let start = is .before .before .before .before .before .before .before in
+    let a = start .args in let g = run-good (a .s) (a .n) (length (a .samples .now)) (start .pre) in
+    (sound-ok (a .s) (g .good), rw (← sounds-samples (a .n) (a .s) (is-163 is)) (g .enough))
 
 returns-2 : tie.Need-returns-2
 unfolding runGave
 returns-2 c =
-    let c3 = c .before .before .before in let c6 = c3 .before .before .before in
-    let c9 = c6 .before .before .before in let c13 = c9 .before .before .before .before in
-    let a = c13 .args in let p = is-163 c6 in let r = c3 .run-sound .ensures in (
+    let sounded = c .before .before .before in let is = sounded .before .before .before in
+    let counted = is .before .before .before in let ran = counted .run-counter .ensures in
+    let start = counted .before .before .before .before in
+    let a = start .args in let p = is-163 is in let r = sounded .run-sound .ensures in (
       rw (
-        c13 .pre,
+        start .pre,
         sounds-state (a .n) (a .s) p,
         sounds-samples (a .n) (a .s) p,
         rise-is (a .n) (a .s),
-        c9 .run-counter .ensures .0,
-        c9 .run-counter .ensures .1,
+        ran .0,
+        ran .1,
         r .0 .0,
         r .0 .1,
       ),
-      rw (c13 .pre, sounds-samples (a .n) (a .s) p) (r .1),
+      rw (start .pre, sounds-samples (a .n) (a .s) p) (r .1),
     )
 
 pub accepted-run-spec : {M : Type 1} → statement M

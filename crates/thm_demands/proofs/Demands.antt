@@ -1,0 +1,77 @@
+-- What is promised, as theorems, for a reader who opens one file: each statement is over definitions of specs/, and its proof cites where it is shown. The
+-- public calls are contracted by the same definitions (crates/call_*/src, crates/image_*/src, crates/host/src), and none has a `requires`.
+use Prim.Native.Nat.{ℕ, _+_, _^_, _<_}
+use mathlib.Core.Path.{_≡_}
+use mathlib.Core.Bool.{false}
+use mathlib.Core.List.{List, _++_}
+use mathlib.Core.Logic.{_⊎_}
+use lib.Ieee.{Float}
+use lib.ListN.{length}
+use Rattle.cut.specs.Always.{AllTyped, NeverRefused}
+use Rattle.cut.specs.Calls.{Call, refused, start, outline, allClocks}
+use Rattle.cut.specs.Demand3.{observed, FirstRise}
+use Rattle.cut.specs.Machine.{machine}
+use Rattle.memory.specs.Range.{Bytes}
+use Rattle.board_state.specs.declared.State.{State}
+use Rattle.board_state.specs.State.{Known}
+use Rattle.call_refusals.specs.Refusals.{firstOf}
+use Rattle.call_run.specs.Run.{runChecks, runGave}
+use Rattle.image_write.specs.Image.{imageOf}
+use Rattle.image_read.specs.Reading.{readImage}
+use Rattle.image_read.proofs.RoundTrip.{read-written, written-read}
+use Rattle.thm_machine.specs.Calls.{Held, Other, CallTyped}
+use Rattle.thm_machine.specs.Paper.{checks, paper}
+use Rattle.thm_machine.specs.Board.{otherGives, board}
+use Rattle.thm_machine.specs.Start.{Loaded, loaded, zeroed}
+use Rattle.thm_machine.specs.Counter.{counterOf, lineOf, NoneTouches}
+use Rattle.thm_machine.proofs.Demand3 as Machine
+use Rattle.thm_range.specs.Fit.{Fit}
+use Rattle.thm_range.proofs.Lists.{always-fit, never-2-or-7}
+use Rattle.thm_range.proofs.Refused.{other-refused, run-refused}
+
+-- ---- demand 1: an unfit call gets the number of its first check that holds, and leaves state, arena and samples as they were
+
+pub demand-1 : (a : Other) (h : Held) → (firstOf (checks a h) ≡ 0 → ⊥)
+    → otherGives a h ≡ record { reply = refused (firstOf (checks a h)); state = h }
+demand-1 = other-refused
+
+pub demand-1-run : (s : State) (n : ℕ) (lent : List Float) → (firstOf (runChecks s n (length lent)) ≡ 0 → ⊥)
+    → runGave s n lent ≡ record { refusal = firstOf (runChecks s n (length lent)); made = 0; rise = 0; samples = lent; state = s }
+demand-1-run = run-refused
+
+-- ---- demand 2, what of it is a theorem: from every load, after every list, the state is known and the arena fits it, so 2 and 7 never come
+
+pub demand-2 : (l : Loaded) → l .submapper < 2 ^ 8 → (calls : List (Call Float Other)) → AllTyped CallTyped calls
+    → Fit (observed board calls (loaded l) .state)
+demand-2 = always-fit
+
+pub demand-2-refusals : (k : ℕ) → (k ≡ 2) ⊎ (k ≡ 7) → (l : Loaded) → l .submapper < 2 ^ 8 → (calls : List (Call Float Other))
+    → AllTyped CallTyped calls → NeverRefused k (observed board calls (loaded l))
+demand-2-refusals = never-2-or-7
+
+-- ---- demand 3: a list is what the plain machine does with it, so how clocks are cut into runs does not show
+
+pub demand-3 : (l : Loaded) (calls : List (Call Float Other)) → observed board calls (loaded l) ≡ machine paper calls (start (zeroed l))
+demand-3 = Machine.as-machine
+
+pub demand-3-cutting : (l : Loaded) (calls others : List (Call Float Other))
+    → outline (observed board calls (loaded l) .trace) ≡ outline (observed board others (loaded l) .trace)
+    → (observed board calls (loaded l) .trace ≡ observed board others (loaded l) .trace)
+    × (observed board calls (loaded l) .state ≡ observed board others (loaded l) .state)
+demand-3-cutting = Machine.cut-blind
+
+-- ---- the counter: 8000 + n with the line clear, left alone, first raises the line after exactly 7FFF − n clocks
+
+pub counter-rises : (first rest : List (Call Float Other)) (h : Held) (n more : ℕ) → counterOf (observed board first h .state) ≡ 0x8000 + n
+    → n < 0x7FFF → lineOf (observed board first h .state) ≡ false → NoneTouches rest
+    → allClocks (observed board (first ++ rest) h .trace) ≡ allClocks (observed board first h .trace) + more
+    → FirstRise board counterOf lineOf first rest h n more
+counter-rises = Machine.first-rise
+
+-- ---- the image: what is written is read back, and what is read is written back
+
+pub image-of-state : (s : State) → Known s → readImage (imageOf s) ≡ record { refusal = 0; state = s }
+image-of-state = read-written
+
+pub state-of-image : (img : List ℕ) → Bytes img → readImage img .refusal ≡ 0 → imageOf (readImage img .state) ≡ img
+state-of-image = written-read
