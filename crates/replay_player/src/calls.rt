@@ -87,7 +87,7 @@ fn run(s: State, out: &mut [u8], at: usize, n: u64, room: usize) -> Answered {
 }
 
 fn reset(s: State, out: &mut [u8], at: usize, kind: u64) -> Answered {
-    let r = call_battery::reset(s, kind);
+    let r = call_reset::reset(s, kind);
     let state = r.state;
     let next = answers::ok(out, at, r.refusal);
     Answered { state, at: next }
