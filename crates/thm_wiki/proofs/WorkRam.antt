@@ -1,4 +1,5 @@
--- Work RAM and a 340's mirroring. Departures: F800 protects nothing; a 175's enable gates stores only, and C800..DFFF reach it too. Assumes nothing.
+-- Work RAM and a 340's mirroring. Departures: F800 protects nothing; a 175's enable gates stores only, and C800..DFFF reach it too.
+-- Assumes nothing.
 use Prim.Native.Nat.{ℕ, _*_, _/_, _≤_, _<_}
 use mathlib.Core.Path.{_≡_, refl, sym}
 use mathlib.Core.Bool.{true, false}

@@ -23,7 +23,8 @@ returns-2 c =
 returns-3 : tie.Need-returns-3
 returns-3 c =
     let digits = c .before in let nonempty = digits .before .before in
-    c .digits-in-base2 .ensures ∙ sym (number-decimal (now (nonempty .before .before .args .word)) (nonempty .if1 .left) (digits .if2 .left))
+    c .digits-in-base2 .ensures
+    ∙ sym (number-decimal (now (nonempty .before .before .args .word)) (nonempty .if1 .left) (digits .if2 .left))
 
 pub parse-number-spec : {M : Type 1} → statement M
 parse-number-spec =
