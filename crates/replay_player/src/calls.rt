@@ -2,6 +2,8 @@
 use crate::player::Player;
 use crate::player::within;
 use board_state::State;
+use call_answers::Altered;
+use call_answers::Peeked;
 use call_cpu::calls as board;
 use call_run::run::Ran;
 use image_write::writing::write_image;
@@ -87,14 +89,14 @@ fn run(s: State, out: &mut [u8], at: usize, n: u64, room: usize) -> Answered {
 }
 
 fn reset(s: State, out: &mut [u8], at: usize, kind: u64) -> Answered {
-    let r = call_reset::reset(s, kind);
+    let r: Altered = call_reset::reset(s, kind);
     let state = r.state;
     let next = answers::ok(out, at, r.refusal);
     Answered { state, at: next }
 }
 
 fn restore_battery(s: State, arena: &[u8], out: &mut [u8], at: usize) -> Answered {
-    let r = call_battery::restore_battery(s, arena);
+    let r: Altered = call_battery::restore_battery(s, arena);
     let state = r.state;
     let next = answers::ok(out, at, r.refusal);
     Answered { state, at: next }
@@ -113,12 +115,12 @@ fn changing(s: State, call: Call, arena: &mut [u8], out: &mut [u8], at: usize) -
 }
 
 fn peek(s: State, arena: &[u8], out: &mut [u8], at: usize, addr: u16) -> usize {
-    let r = board::cpu_peek(s, arena, addr);
+    let r: Peeked = board::cpu_peek(s, arena, addr);
     answers::byte(out, at, r.refusal, r.byte)
 }
 
 fn chr_read(s: State, arena: &[u8], out: &mut [u8], at: usize, addr: u16) -> usize {
-    let r = call_regions::chr_read(s, arena, addr);
+    let r: Peeked = call_regions::chr_read(s, arena, addr);
     answers::byte(out, at, r.refusal, r.byte)
 }
 
@@ -143,7 +145,7 @@ fn fill(
 }
 
 fn region_peek(s: State, arena: &[u8], out: &mut [u8], at: usize, src: Src, offset: u64) -> usize {
-    let r = call_regions::region_peek(s, arena, src, offset);
+    let r: Peeked = call_regions::region_peek(s, arena, src, offset);
     answers::byte(out, at, r.refusal, r.byte)
 }
 
