@@ -72,7 +72,8 @@ pub fn get(img: &[u8], r: Cursor, width: usize) -> Got
 // Writes each of xs in width bits.
 pub fn put_run(img: &mut [u8], w: Cursor, width: usize, xs: &[u32]) -> Cursor
     requires { ⌜ Held w ⌝ }
-    requires { ⌜ (width ≤ 56) × Fit (replicate (length (now xs)) width) (now xs) × (w .at * 8 + w .n + length (now xs) * width ≤ length (now img) * 8) ⌝ }
+    requires { ⌜ (width ≤ 56) × Fit (replicate (length (now xs)) width) (now xs)
+        × (w .at * 8 + w .n + length (now xs) * width ≤ length (now img) * 8) ⌝ }
     ensures { λ r. ⌜ Wrote (now (img .entry)) (now (img .exit)) w r (replicate (length (now (xs .entry))) width) (now (xs .entry)) ⌝ }
 {
     let mut c = w;

@@ -5,7 +5,7 @@ use mathlib.Core.Bool.{true, _&&_}
 use mathlib.Core.List.{List}
 use Prim.Native.Nat.{ℕ}
 use native.Mathlib.Omega.{arith}
-use borrow.Author.Tests.{eqb-true, leb-true, le-leb}
+use borrow.Author.Tests.{not-false, eqb-true, leb-true, le-leb}
 use lib.Dec.{eqb, leb}
 use lib.ListN.{length, getD}
 use Rattle.bits.specs.Fields.{pack, Fit}
@@ -17,7 +17,7 @@ use Rattle.board_state.specs.declared.State.{State}
 use Rattle.board_state.specs.State.{inRange, Known}
 use Rattle.board_state.proofs.Range.{known-passes}
 use Rattle.memory.specs.Range.{Bytes}
-use Rattle.limits.proofs.Every.{and-left, and-right, was-true}
+use Rattle.limits.proofs.Every.{and-left, and-right}
 use Rattle.call_refusals.specs.Refusals.{firstOf}
 use Rattle.call_refusals.proofs.Laws.{accepted-none, number-is}
 use Rattle.image_write.specs.Image.{imageBytes, part, partWidths, partFields, widths, fields, imageOf}
@@ -41,7 +41,7 @@ refusal-is img = number-is (readChecks img) refusedRead _ (λ (r : ReadImage). r
 pub accepted-in-range : (img : List ℕ) → readImage img .refusal ≡ 0 → (length img ≡ imageBytes) × (fieldsOk (fieldsOf img) ≡ true)
 accepted-in-range img e =
     let h = accepted-none (readChecks img) (omega arith, (omega arith, tt)) (sym (refusal-is img) ∙ e) in
-    (eqb-true (length img) imageBytes (was-true (eqb (length img) imageBytes) (h .0)), was-true (fieldsOk (fieldsOf img)) (h .1 .0))
+    (eqb-true (length img) imageBytes (not-false (eqb (length img) imageBytes) (h .0)), not-false (fieldsOk (fieldsOf img)) (h .1 .0))
 
 -- and such an image is accepted
 pub in-range-accepted : (img : List ℕ) → length img ≡ imageBytes → fieldsOk (fieldsOf img) ≡ true → readImage img .refusal ≡ 0

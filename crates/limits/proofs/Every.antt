@@ -1,7 +1,7 @@
 -- Laws of a test of each index below a number, and of tests joined by `&&`.
 use Prim.Native.Nat.{ℕ, zero, suc, _+_, _≤_, _<_}
-use mathlib.Core.Path.{_≡_, refl, sym}
-use mathlib.Core.Bool.{Bool, true, false, not, _&&_}
+use mathlib.Core.Path.{_≡_, refl}
+use mathlib.Core.Bool.{Bool, true, false, _&&_}
 use borrow.Author.Tests.{leb-true}
 use lib.Dec.{leb}
 use mathlib.Core.Logic.{_⊎_, inl, inr}
@@ -27,15 +27,6 @@ first-of a b e = (and-left a b e, and-right a b e)
 
 pub both : (a b : Bool) → a ≡ true → b ≡ true → a && b ≡ true
 both a b p q = rw (p, q)
-
--- what a test of `!b` says of b
-pub was-false : (b : Bool) → not b ≡ true → b ≡ false
-was-false true e = sym e
-was-false false e = refl
-
-pub was-true : (b : Bool) → not b ≡ false → b ≡ true
-was-true true e = refl
-was-true false e = sym e
 
 -- each index below n passes
 pub every-at : (n : ℕ) (p : ℕ → Bool) → every n p ≡ true → (i : ℕ) → i < n → p i ≡ true

@@ -1,4 +1,5 @@
 // Replays a list of calls from standard input, one a line, and writes an answer line for each.
+use limits::ARENA_MOST;
 use replay_player::player::Player;
 
 mod input; // input.rt: lines of the input
@@ -7,7 +8,7 @@ mod input; // input.rt: lines of the input
 fn play(
     line: &mut [u8; 1_048_701],
     bytes: &mut [u8; 524_350],
-    arena: &mut [u8; 858_112],
+    arena: &mut [u8; ARENA_MOST],
     out: &mut [u8; 262_144],
 ) {
     input::play(Player::new(), line, bytes, arena, out);
@@ -19,7 +20,7 @@ fn main() {
     // The bytes that a `fill` of the longest line names.
     let mut bytes = [0u8; 524_350];
     // The largest layout: 838 pages.
-    let mut arena = [0u8; 858_112];
+    let mut arena = [0u8; ARENA_MOST];
     // More than twice the longest answer, that of a run.
     let mut out = [0u8; 262_144];
     play(&mut line, &mut bytes, &mut arena, &mut out);

@@ -1,5 +1,5 @@
 // The pieces of an answer line. Each answers where the next byte goes.
-use call_cpu::calls::Changed;
+use memory::changes::Changed;
 use replay_text::adler::adler32;
 use replay_text::out::put;
 use replay_text::out::put_all;

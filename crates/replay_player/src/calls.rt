@@ -2,8 +2,11 @@
 use crate::player::Player;
 use crate::player::within;
 use board_state::State;
+use call_answers::Altered;
+use call_answers::Peeked;
 use call_cpu::calls as board;
 use call_run::run::Ran;
+use image_write::sections::IMAGE_BYTES;
 use image_write::writing::write_image;
 use memory::layout::Layout;
 use memory::layout::MemoryLayout;
@@ -87,14 +90,14 @@ fn run(s: State, out: &mut [u8], at: usize, n: u64, room: usize) -> Answered {
 }
 
 fn reset(s: State, out: &mut [u8], at: usize, kind: u64) -> Answered {
-    let r = call_battery::reset(s, kind);
+    let r: Altered = call_reset::reset(s, kind);
     let state = r.state;
     let next = answers::ok(out, at, r.refusal);
     Answered { state, at: next }
 }
 
 fn restore_battery(s: State, arena: &[u8], out: &mut [u8], at: usize) -> Answered {
-    let r = call_battery::restore_battery(s, arena);
+    let r: Altered = call_battery::restore_battery(s, arena);
     let state = r.state;
     let next = answers::ok(out, at, r.refusal);
     Answered { state, at: next }
@@ -113,12 +116,12 @@ fn changing(s: State, call: Call, arena: &mut [u8], out: &mut [u8], at: usize) -
 }
 
 fn peek(s: State, arena: &[u8], out: &mut [u8], at: usize, addr: u16) -> usize {
-    let r = board::cpu_peek(s, arena, addr);
+    let r: Peeked = board::cpu_peek(s, arena, addr);
     answers::byte(out, at, r.refusal, r.byte)
 }
 
 fn chr_read(s: State, arena: &[u8], out: &mut [u8], at: usize, addr: u16) -> usize {
-    let r = call_regions::chr_read(s, arena, addr);
+    let r: Peeked = call_regions::chr_read(s, arena, addr);
     answers::byte(out, at, r.refusal, r.byte)
 }
 
@@ -143,7 +146,7 @@ fn fill(
 }
 
 fn region_peek(s: State, arena: &[u8], out: &mut [u8], at: usize, src: Src, offset: u64) -> usize {
-    let r = call_regions::region_peek(s, arena, src, offset);
+    let r: Peeked = call_regions::region_peek(s, arena, src, offset);
     answers::byte(out, at, r.refusal, r.byte)
 }
 
@@ -171,7 +174,7 @@ fn sync_battery(s: State, arena: &mut [u8], out: &mut [u8], at: usize) -> usize 
 }
 
 fn image(s: State, out: &mut [u8], at: usize) -> usize {
-    let mut img = [0u8; 307];
+    let mut img = [0u8; IMAGE_BYTES];
     let refusal = write_image(s, &mut img);
     answers::image(out, at, refusal, &img)
 }

@@ -1,7 +1,7 @@
 // What lasts from line to line, beside the lent arrays.
-use call_load::no_state;
 ghost use Rattle.io.specs.Counts.{Counts};
 use board_state::State;
+use board_state::none::no_state;
 
 pub struct Player {
     // Whether a load was accepted.

@@ -1,5 +1,5 @@
--- The counter: its clock in one step, 01's case 7 "Counters 7FFE and FFFF never move", and that its cycle and its two bytes are the wiki's. Assumes
--- nothing.
+-- The counter: its clock in one step, 01's case 7 "Counters 7FFE and FFFF never move", and that its cycle and its two bytes are the
+-- wiki's. Assumes nothing.
 use Prim.Native.Nat.{ℕ, zero, suc, _+_, _*_, _/_, _%_, _^_, _≤_, _<_}
 use mathlib.Core.Path.{_≡_, refl, ap, _∙_}
 use mathlib.Core.Bool.{Bool, true, false, cond, _||_}

@@ -1,6 +1,10 @@
 -- Laws of tests. Assumes nothing.
+use Prim.Native.Nat.{ℕ, _≤_, _<_}
 use mathlib.Core.Path.{_≡_, refl, sym}
 use mathlib.Core.Bool.{Bool, true, false, cond}
+use mathlib.Core.Logic.{_⊎_, inl, inr}
+use borrow.Author.Tests.{leb-true, leb-false}
+use lib.Dec.{leb}
 
 -- two tests that hold together are the same
 pub same-test : (a b : Bool) → (a ≡ true → b ≡ true) → (a ≡ false → b ≡ false) → a ≡ b
@@ -11,3 +15,10 @@ same-test false b p q = sym (q refl)
 pub cond-same : {A : Type 0} (t : Bool) (x : A) → cond t x x ≡ x
 cond-same true x = refl
 cond-same false x = refl
+
+pub le-or-lt : (m n : ℕ) → (m ≤ n) ⊎ (n < m)
+le-or-lt m n = go (leb m n) refl
+  where
+    go : (b : Bool) → leb m n ≡ b → (m ≤ n) ⊎ (n < m)
+    go true e = inl (leb-true m n e)
+    go false e = inr (leb-false m n e)

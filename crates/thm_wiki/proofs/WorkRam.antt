@@ -1,4 +1,5 @@
--- Work RAM and a 340's mirroring. Departures: F800 protects nothing; a 175's enable gates stores only, and C800..DFFF reach it too. Assumes nothing.
+-- Work RAM and a 340's mirroring. Departures: F800 protects nothing; a 175's enable gates stores only, and C800..DFFF reach it too.
+-- Assumes nothing.
 use Prim.Native.Nat.{ℕ, _*_, _/_, _≤_, _<_}
 use mathlib.Core.Path.{_≡_, refl, sym}
 use mathlib.Core.Bool.{true, false}
@@ -53,8 +54,8 @@ pub no-work-ram : prgRamReadable Namco340 ≡ false
 no-work-ram = refl
 
 -- a 340's mirroring is bits 6..7 of E000 alone
-pub mirroring-bits : (v : ℕ) → v < 256 → mirroringOf v ≡ mirroringOf (v / 64 * 64)
-unfolding mirroringOf
+pub mirroring-bits : (v : ℕ) → v < 256 → mirroringE000 v ≡ mirroringE000 (v / 64 * 64)
+unfolding mirroringE000
 mirroring-bits v h = rw (same 1, same 2, same 3)
   where
     same : (k : ℕ) → ltb v (64 * k) ≡ ltb (v / 64 * 64) (64 * k)

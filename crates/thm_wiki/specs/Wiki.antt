@@ -1,5 +1,5 @@
--- The outside definition: mappers 019 and 210 as the NESdev wiki has them (docs/nesdev-facts.md), written without the Rust. What stands in quotes is a
--- sentence of that page. The last section sets the board's registers beside them.
+-- The outside definition: mappers 019 and 210 as the NESdev wiki has them (docs/nesdev-facts.md), written without the Rust. What stands in
+-- quotes is a sentence of that page. The last section sets the board's registers beside them.
 use Prim.Native.Nat.{ℕ, _+_, _-_, _*_, _/_, _%_, _^_, _≤_, _<_}
 use mathlib.Core.Path.{_≡_}
 use mathlib.Core.Bool.{Bool, true, false, cond, not, _&&_, _||_}
@@ -65,12 +65,13 @@ pub data WikiPage : Type 0 where
   chrPage : ℕ → WikiPage
   nametable : ℕ → WikiPage
 
--- "if allowed: windows 0..3 where bit 6 of E800 is clear, windows 4..7 where bit 7 is clear, windows 8..11 always", by that register's value
+-- "if allowed: windows 0..3 where bit 6 of E800 is clear, windows 4..7 where bit 7 is clear, windows 8..11 always", by that register's
+-- value
 unfoldable pub wikiAllowed : ℕ → ℕ → Bool
 wikiAllowed e800 k = cond (ltb k 4) (not (wikiBit 6 e800)) (cond (ltb k 8) (not (wikiBit 7 e800)) true)
 
--- "A value below E0 is a CHR-ROM page. A value of E0 or more selects nametable RAM, even for its first and odd for its second KiB, if allowed .. Where it
--- is not allowed it is a CHR-ROM page like any other."
+-- "A value below E0 is a CHR-ROM page. A value of E0 or more selects nametable RAM, even for its first and odd for its second KiB, if
+-- allowed .. Where it is not allowed it is a CHR-ROM page like any other."
 unfoldable pub wikiSelects : ℕ → ℕ → ℕ → WikiPage
 wikiSelects e800 k v = cond (leb 0xE0 v && wikiAllowed e800 k) (nametable (v % 2)) (chrPage v)
 

@@ -1,5 +1,5 @@
 -- Laws of bytes as one number.
-use mathlib.Core.Path.{_≡_, refl, sym, ap, ap₂, _∙_}
+use mathlib.Core.Path.{_≡_, sym, ap, ap₂, _∙_}
 use mathlib.Core.List.{List, [], _∷_, _++_}
 use Prim.Native.Nat.{ℕ, zero, suc, _+_, _-_, _*_, _^_, _/_, _%_, _≤_, _<_}
 use native.Mathlib.Nat.{one-mul, not-suc-le-zero, le-of-suc-le-suc, mul-le-mul, lt-of-lt-of-le}
@@ -10,12 +10,10 @@ use lib.ListN.{length, take, drop, set, getD, length-append, length-replicate, r
 use lib.Seq.{take-suc, take-suc-set, getD-drop, paste, paste-suc}
 use Rattle.bits.specs.Fields.{total, pack, unpack, Fit}
 use Rattle.bits.specs.Words.{wordOf, eights}
-use Rattle.bits.proofs.Fields.{pack-append, pack-unpack, unpack-pack, length-unpack}
+use Rattle.bits.proofs.Fields.{pack-append, pack-unpack, unpack-pack, length-unpack, total-replicate}
 
 pub total-eights : (n : ℕ) → total (eights n) ≡ n * 8
-unfolding total
-total-eights zero = refl
-total-eights (suc n) = omega (arith, total-eights n)
+total-eights n = total-replicate n 8
 
 pub word-append : (xs ys : List ℕ) → wordOf (xs ++ ys) ≡ wordOf xs * 2 ^ (length ys * 8) + wordOf ys
 word-append xs ys =

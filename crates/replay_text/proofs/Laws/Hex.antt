@@ -6,13 +6,13 @@ use mathlib.Core.Path.{_≡_, refl, ap, _∙_}
 use mathlib.Core.List.{List, [], _∷_}
 use native.Mathlib.Omega.{arith}
 use lib.Dec.{ltb, leb, eqb}
-use lib.ListN.{length, getD, drop, set}
+use lib.ListN.{length, getD, drop, set, drop-of-length-le}
 use borrow.Author.Tests.{le-ltb, lt-ltb, le-leb, lt-leb, eq-eqb, ne-eqb}
 use Rattle.replay_text.specs.declared.hex.Decoded.{Decoded}
 use Rattle.replay_text.specs.declared.hex.Decoded.the-variants.{Bytes, Nothing}
 use Rattle.replay_text.specs.Out.{putTo, putAll}
 use Rattle.replay_text.specs.Hex.{digitOf, pairs, decodedOf, decodedTo}
-use Rattle.replay_text.proofs.Laws.Lists.{drop-next, drop-end}
+use Rattle.replay_text.proofs.Laws.Lists.{drop-next}
 use Rattle.replay_text.proofs.Laws.Out.{put-in}
 
 -- ---- a digit, by the range that its byte is in
@@ -70,7 +70,7 @@ pairs-stop s i h (inr b) = pairs-next s i h ∙ rw (lt-ltb _ _ b) (cond-same (lt
 
 pub pairs-end : (s : List ℕ) (i : ℕ) → length s ≤ i → pairs (drop i s) ≡ []
 unfolding pairs
-pairs-end s i h = rw (drop-end s i h)
+pairs-end s i h = rw (drop-of-length-le s h)
 
 -- the bytes of i pairs are put: with those that are left they are all
 abbrev pub Passed : List ℕ → List ℕ → ℕ → List ℕ → Type 0

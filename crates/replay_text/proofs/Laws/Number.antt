@@ -6,12 +6,12 @@ use mathlib.Core.List.{List, [], _∷_}
 use native.Mathlib.Omega.{arith}
 use native.Mathlib.Nat.{le-div-iff-mul-le, div-lt-iff-lt-mul}
 use lib.Dec.{ltb, leb}
-use lib.ListN.{length, getD, drop}
+use lib.ListN.{length, getD, drop, drop-of-length-le}
 use borrow.Author.Tests.{eq-eqb, ne-eqb}
 use Rattle.replay_text.specs.declared.number.Number.the-variants.{Value, Nothing}
 use Rattle.replay_text.specs.Hex.{digitOf}
 use Rattle.replay_text.specs.Number.{digitsAfter, inBase, numberOf}
-use Rattle.replay_text.proofs.Laws.Lists.{drop-next, drop-end}
+use Rattle.replay_text.proofs.Laws.Lists.{drop-next}
 
 pub digits-next : (base n : ℕ) (l : List ℕ) (i : ℕ) → i < length l
     → digitsAfter base n (drop i l)
@@ -23,7 +23,7 @@ digits-next base n l i h = rw (drop-next l i h)
 
 pub digits-end : (base n : ℕ) (l : List ℕ) (i : ℕ) → length l ≤ i → digitsAfter base n (drop i l) ≡ Value n
 unfolding digitsAfter
-digits-end base n l i h = rw (drop-end l i h)
+digits-end base n l i h = rw (drop-of-length-le l h)
 
 -- the code's test for room, by a quotient
 pub has-room : (v b d : ℕ) → 0 < b → d < 18446744073709551616 → v ≤ (18446744073709551615 - d) / b

@@ -5,9 +5,9 @@ use mathlib.Core.Path.{_≡_, refl}
 use mathlib.Core.List.{List, [], _∷_}
 use native.Mathlib.Omega.{arith}
 use lib.Dec.{eqb}
-use lib.ListN.{length, getD, drop}
+use lib.ListN.{length, getD, drop, drop-of-length-le}
 use Rattle.replay_text.specs.Words.{isSpace, spacesIn, behind, wordLength}
-use Rattle.replay_text.proofs.Laws.Lists.{drop-next, drop-end}
+use Rattle.replay_text.proofs.Laws.Lists.{drop-next}
 
 pub spaces-next : (l : List ℕ) (i : ℕ) → i < length l → spacesIn (drop i l) ≡ isSpace (getD l i 0) + spacesIn (drop (i + 1) l)
 unfolding spacesIn
@@ -15,7 +15,7 @@ spaces-next l i h = rw (drop-next l i h)
 
 pub spaces-end : (l : List ℕ) (i : ℕ) → length l ≤ i → spacesIn (drop i l) ≡ 0
 unfolding spacesIn
-spaces-end l i h = rw (drop-end l i h)
+spaces-end l i h = rw (drop-of-length-le l h)
 
 pub behind-none : (s : List ℕ) → behind 0 s ≡ s
 unfolding behind
@@ -25,7 +25,7 @@ behind-none (b ∷ s) = refl
 pub behind-end : (n : ℕ) (l : List ℕ) (i : ℕ) → length l ≤ i → behind n (drop i l) ≡ drop i l
 unfolding behind
 behind-end zero l i h = behind-none (drop i l)
-behind-end (suc n) l i h = rw (drop-end l i h)
+behind-end (suc n) l i h = rw (drop-of-length-le l h)
 
 pub behind-next : (n : ℕ) (l : List ℕ) (i : ℕ) → 0 < n → i < length l
     → behind n (drop i l) ≡ behind (n - isSpace (getD l i 0)) (drop (i + 1) l)
@@ -40,4 +40,4 @@ word-next l i h = rw (drop-next l i h)
 
 pub word-end : (l : List ℕ) (i : ℕ) → length l ≤ i → wordLength (drop i l) ≡ 0
 unfolding wordLength
-word-end l i h = rw (drop-end l i h)
+word-end l i h = rw (drop-of-length-le l h)

@@ -30,13 +30,12 @@ load-requires c κs =
 returns : tie.Need-returns
 unfolding bitsRead total
 returns c =
-    let c1 = c .before in let c3 = c1 .before .before in
-    let s = c3 in
+    let loaded = c .before in let s = loaded .before .before in
     let r = s .args .r in
     let w = s .args .width in
     let k = (w + 7 - r .n) / 8 in
     let m = r .n + k * 8 - w in
-    let l = c1 .load in
+    let l = loaded .load in
     let img = s .args .img .now in
     let e : m + w ≡ r .n + k * 8 = omega arith in
     let all = get-bits img (r .at) (r .n) (r .acc) w k m (l .result) e (omega arith) (s .pre .0 .last) (l .ensures .0) in

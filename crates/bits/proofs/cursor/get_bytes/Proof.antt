@@ -9,11 +9,9 @@ use Rattle.bits.proofs.cursor.get_bytes.Tie as tie
 
 returns : tie.Need-returns
 returns c =
-    let c2 = c .before .before in let c5 = c2 .before .before .before in let c6 = c5 .before in
-    let s = c6 in
-    bytes-read (s .args .img .now) (s .args .r) _ (c2 .copy-from .last .1 .1 .0) (length (s .args .xs .now)) (s .pre .0) (s .pre .1)
-    (s .pre .2)
-    (λ i. c5 .shared-slice-known .given i .fits) (c2 .copy-from .ensures) refl refl (omega arith)
+    let copied = c .before .before in let known = copied .before .before .before in let s = known .before in
+    bytes-read (s .args .img .now) (s .args .r) _ (copied .copy-from .last .1 .1 .0) (length (s .args .xs .now)) (s .pre .0) (s .pre .1)
+    (s .pre .2) (λ i. known .shared-slice-known .given i .fits) (copied .copy-from .ensures) refl refl (omega arith)
 
 pub get-bytes-spec : {M : Type 1} → statement M
 get-bytes-spec = tie.close (tie.spec (λ c κs. search needs) (λ c. search needs) (λ c. search needs) returns)

@@ -19,6 +19,9 @@ Inv-loop img width xs₀ c₀ i₀ xs c i = (i ≤ length xs) × (length xs ≡ 
 abbrev μ-loop : tie.MeasureT-loop
 μ-loop img width xs₀ c₀ i₀ xs c i = length xs₀ - i
 
+abbrev start : tie.At-loop Inv-loop μ-loop → tie.Start Inv-loop μ-loop
+start turn = turn .before .before .before
+
 loop-holds : tie.Need-loop-holds Inv-loop μ-loop
 loop-holds c =
     let s = c .before .before in
@@ -26,9 +29,7 @@ loop-holds c =
 
 get-requires : tie.Need-get-requires Inv-loop μ-loop
 get-requires c κs =
-    let c1 = c .before in let c4 = c1 .before .before .before in
-    let l = c1 .loop in
-    let s = c4 in
+    let l = c .before .loop in let s = start (c .before) in
     let w = s .args .width in (
       l .inv .2 .behind,
       (
@@ -39,15 +40,13 @@ get-requires c κs =
 
 cast-xs : tie.Need-cast-xs Inv-loop μ-loop
 cast-xs c =
-    let c1 = c .before in let c6 = c1 .before .before .before .before .before in
-    record { fits = lt-of-lt-of-le (c1 .get .ensures .fit .0) (pow-mono {i = c6 .args .width} {j = 32} (omega arith)) }
+    let got = c .before in let s = start (got .before .before) in
+    record { fits = lt-of-lt-of-le (got .get .ensures .fit .0) (pow-mono {i = s .args .width} {j = 32} (omega arith)) }
 
 loop-again : tie.Need-loop-again Inv-loop μ-loop
 loop-again c =
-    let c2 = c .before .before in let c4 = c2 .before .before in let c7 = c4 .before .before .before in
-    let l = c4 .loop in
-    let s = c7 in
-    let g = c2 .get in (
+    let got = c .before .before in let turn = got .before .before in
+    let l = turn .loop in let s = start turn in let g = got .get in (
       rw length-set (omega arith),
       length-set (l .xs) (l .i) (g .result .v) ∙ l .inv .1,
       read-suc (s .args .img .now) (s .args .r) (l .c) (g .result .next) (s .args .width) (l .xs) (l .i) (g .result .v)
@@ -58,7 +57,7 @@ returns : tie.Need-returns Inv-loop μ-loop
 returns c =
     let l = c .before .loop in
     let e : l .i ≡ length (l .xs) = omega arith in
-    let f : length (l .xs) ≡ length (c .before .before .before .before .args .xs .now) = l .inv .1 in
+    let f : length (l .xs) ≡ length (start (c .before) .args .xs .now) = l .inv .1 in
     rw f at (rw (e, take-length (l .xs)) at (l .inv .2))
 
 pub get-run-spec : {M : Type 1} → statement M

@@ -18,20 +18,19 @@ use Rattle.bits.proofs.cursor.put.Tie as tie
 
 add-acc : tie.Need-add-acc
 add-acc c =
-    let c2 = c .before .before in
-    let a = c2 .args in
-    let h = c2 .pre .0 in
+    let start = c .before .before in
+    let a = start .args in
+    let h = start .pre .0 in
     record {
       fits =
           rw (acc-exact (a .w .acc) (a .w .n) (a .width) (h .few) (omega arith) (h .small))
-          (fits63 _ (a .w .n + a .width) (acc-lt (a .w .acc) (a .w .n) (a .width) (a .v) (h .small) (c2 .pre .1 .1)) (omega arith));
+          (fits63 _ (a .w .n + a .width) (acc-lt (a .w .acc) (a .w .n) (a .width) (a .v) (h .small) (start .pre .1 .1)) (omega arith));
     }
 
 returns : tie.Need-returns
 unfolding bitsWritten total
 returns c =
-    let c3 = c .before .before .before in let c7 = c3 .before .before .before .before in
-    let s = c7 in
+    let stored = c .before .before .before in let s = stored .before .before .before .before in
     let a = s .args in
     let n = a .w .n + a .width in
     let acc : ℕ = (a .w .acc * 2 ^ a .width) % 2 ^ 64 + a .v in
@@ -42,13 +41,13 @@ returns c =
       pos = omega arith;
       bits =
           rw (c .low .ensures)
-          (put-bits (a .img .now) (c3 .store .last .0) (a .w .at) (a .w .n) (a .w .acc) (a .width) (a .v) (n / 8) (n % 8) acc
-          (omega arith) (omega arith) (s .pre .0 .small) (s .pre .1 .1) e (c3 .store .ensures)
+          (put-bits (a .img .now) (stored .store .last .0) (a .w .at) (a .w .n) (a .w .acc) (a .width) (a .v) (n / 8) (n % 8) acc
+          (omega arith) (omega arith) (s .pre .0 .small) (s .pre .1 .1) e (stored .store .ensures)
           ∙ after-one _ (a .width) (a .v));
-      rest = ap (drop (a .w .at + n / 8)) (c3 .store .ensures)
+      rest = ap (drop (a .w .at + n / 8)) (stored .store .ensures)
           ∙ drop-paste (a .img .now) (a .w .at) (bytesOf (n / 8) (acc / 2 ^ (n % 8))) (n / 8) (omega arith)
           (rw length-bytes (le-refl (n / 8)));
-      len = ap length (c3 .store .ensures)
+      len = ap length (stored .store .ensures)
           ∙ length-paste (a .img .now) (a .w .at) (bytesOf (n / 8) (acc / 2 ^ (n % 8))) (n / 8) (omega arith)
           (rw length-bytes (le-refl (n / 8)));
     }

@@ -7,10 +7,9 @@ use Rattle.bits.proofs.cursor.put_bytes.Tie as tie
 
 returns : tie.Need-returns
 returns c =
-    let c2 = c .before .before in let c6 = c2 .before .before .before .before in
-    let s = c6 in
-    bytes-wrote (s .args .img .now) (c2 .copy-to .last .0) (s .args .w) _ (s .args .xs .now) (s .pre .0) (s .pre .1) (s .pre .2)
-    (c2 .copy-to .ensures) refl refl refl
+    let copied = c .before .before in let s = copied .before .before .before .before in
+    bytes-wrote (s .args .img .now) (copied .copy-to .last .0) (s .args .w) _ (s .args .xs .now) (s .pre .0) (s .pre .1) (s .pre .2)
+    (copied .copy-to .ensures) refl refl refl
 
 pub put-bytes-spec : {M : Type 1} → statement M
 put-bytes-spec = tie.close (tie.spec (λ c κs. search needs) (λ c. search needs) (λ c. search needs) returns)

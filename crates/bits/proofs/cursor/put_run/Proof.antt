@@ -18,6 +18,9 @@ Inv-loop img₀ width xs c₀ i₀ img c i =
 abbrev μ-loop : tie.MeasureT-loop
 μ-loop img₀ width xs c₀ i₀ img c i = length xs - i
 
+abbrev start : tie.At-loop Inv-loop μ-loop → tie.Start Inv-loop μ-loop
+start turn = turn .before .before .before
+
 loop-holds : tie.Need-loop-holds Inv-loop μ-loop
 loop-holds c =
     let s = c .before .before in
@@ -28,9 +31,7 @@ cast-put c = omega (arith, c .shared-slice-known2 .given (c .before .before .bef
 
 put-requires : tie.Need-put-requires Inv-loop μ-loop
 put-requires c κs =
-    let c3 = c .before .before .before in let c6 = c3 .before .before .before in
-    let l = c3 .loop in
-    let s = c6 in
+    let turn = c .before .before .before in let l = turn .loop in let s = start turn in
     let n = length (s .args .xs .now) in
     let w = s .args .width in (
       l .inv .2 .held,
@@ -43,18 +44,17 @@ put-requires c κs =
 
 loop-again : tie.Need-loop-again Inv-loop μ-loop
 loop-again c =
-    let c2 = c .before .before in let c6 = c2 .before .before .before .before in let c9 = c6 .before .before .before in
-    let l = c6 .loop in
-    let s = c9 in (
+    let put = c .before .before in let turn = put .before .before .before .before in
+    let l = turn .loop in let s = start turn in (
       omega arith,
       omega arith,
-      wrote-suc (s .args .img .now) (l .img) (c2 .put .last .0) (s .args .w) (l .c) (c2 .put .result)
-          (s .args .width) (s .args .xs .now) (l .i) (omega arith) (l .inv .2) (c2 .put .ensures),
+      wrote-suc (s .args .img .now) (l .img) (put .put .last .0) (s .args .w) (l .c) (put .put .result)
+          (s .args .width) (s .args .xs .now) (l .i) (omega arith) (l .inv .2) (put .put .ensures),
     )
 
 returns : tie.Need-returns Inv-loop μ-loop
 returns c =
-    let xs = c .before .before .before .before .args .xs .now in
+    let xs = start (c .before) .args .xs .now in
     let e : c .before .loop .i ≡ length xs = omega arith in
     rw (e, take-length xs) at (c .before .loop .inv .2)
 

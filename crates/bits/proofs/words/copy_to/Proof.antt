@@ -21,9 +21,8 @@ loop-holds c = (omega arith, paste-zero (c .args .img .now) (c .args .at) (c .ar
 
 loop-again : tie.Need-loop-again Inv-loop μ-loop
 loop-again c =
-    let c2 = c .before .before in let c3 = c2 .before in
-    let s = c3 .args in
-    let l = c2 .loop in (
+    let s = c .before .before .before .args in
+    let l = c .before .before .loop in (
       omega arith,
       ap (λ (i : List ℕ). set i (s .at + l .j) (getD (s .xs .now) (l .j) 0)) (l .inv .1)
           ∙ paste-suc (s .img .now) (s .at) (s .xs .now) (l .j) 0 (omega arith) (omega arith)

@@ -19,17 +19,15 @@ loop-holds c = (omega arith, load-zero (c .args .acc) (c .args .img .now) (c .ar
 
 mul-a : tie.Need-mul-a Inv-loop μ-loop
 mul-a c =
-    let c1 = c .before in let c2 = c1 .before in
-    omega (arith, load-fits (c2 .args .acc) (c1 .loop .j) (c1 .loop .a) (omega arith) (omega arith) (c1 .loop .inv .2))
+    let s = c .before .before in let l = c .before .loop in
+    omega (arith, load-fits (s .args .acc) (l .j) (l .a) (omega arith) (omega arith) (l .inv .2))
 
 cast-a : tie.Need-cast-a Inv-loop μ-loop
 cast-a c = omega (arith, c .shared-slice-known .given (c .before .before .before .args .at + c .before .before .loop .j))
 
 add-a-2 : tie.Need-add-a-2 Inv-loop μ-loop
 add-a-2 c =
-    let c2 = c .before .before in let c3 = c2 .before in
-    let s = c3 in
-    let l = c2 .loop in
+    let s = c .before .before .before in let l = c .before .before .loop in
     omega (
       arith,
       c .shared-slice-known .given (s .args .at + l .j),
@@ -38,9 +36,7 @@ add-a-2 c =
 
 loop-again : tie.Need-loop-again Inv-loop μ-loop
 loop-again c =
-    let c2 = c .before .before in let c3 = c2 .before in
-    let s = c3 in
-    let l = c2 .loop in
+    let s = c .before .before .before in let l = c .before .before .loop in
     let b : getD (s .args .img .now) (s .args .at + l .j) 0 < 256 = omega
     (arith, c .shared-slice-known .given (s .args .at + l .j)) in (
       omega arith,

@@ -1,5 +1,5 @@
 -- A float that equals itself is no NaN.
-use Rattle.board_state.proofs.AudioRange.{number}
+use Rattle.sound.proofs.range.Laws.{number}
 use borrow.Author.Needs.{needs}
 use Rattle.replay_answers.proofs.answers.bits.Statement.{statement}
 use Rattle.replay_answers.proofs.answers.bits.Tie as tie

@@ -7,8 +7,8 @@ use Rattle.replay_player.proofs.calls.arena_len.Tie as tie
 
 arena-len-requires : tie.Need-arena-len-requires
 arena-len-requires c κs =
-    let c1 = c .before in let c2 = c1 .before in let c3 = c2 .before in
-    rw (c .new .ensures) (layout-good (c3 .args .sizes) (sym (c2 .within-limits .ensures) ∙ c1 .if1 .taken))
+    let test = c .before .before in
+    rw (c .new .ensures) (layout-good (test .before .args .sizes) (sym (test .within-limits .ensures) ∙ c .before .if1 .taken))
 
 pub arena-len-spec : {M : Type 1} → statement M
 arena-len-spec =

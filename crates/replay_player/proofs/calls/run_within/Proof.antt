@@ -9,8 +9,8 @@ use Rattle.replay_player.proofs.calls.run_within.Tie as tie
 
 slice-aggregate-run : tie.Need-slice-aggregate-run
 slice-aggregate-run c =
-    let c3 = c .before .before .before in
-    sym (length-take-le (c3 .args .room) (now (c3 .args .samples)) (omega arith))
+    let start = c .before .before .before in
+    sym (length-take-le (start .args .room) (now (start .args .samples)) (omega arith))
 
 pub run-within-spec : {M : Type 1} → statement M
 run-within-spec =

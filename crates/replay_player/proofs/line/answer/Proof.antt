@@ -9,8 +9,8 @@ use Rattle.replay_player.proofs.line.answer.Tie as tie
 
 slice-aggregate-answer-words : tie.Need-slice-aggregate-answer-words
 slice-aggregate-answer-words c =
-    let c9 = c .before .before .before .before .before .before .before .before .before in
-    sym (length-take-le (c9 .args .len) (now (c9 .args .line)) (omega arith))
+    let start = c .before .before .before .before .before .before .before .before .before in
+    sym (length-take-le (start .args .len) (now (start .args .line)) (omega arith))
 
 pub answer-spec : {M : Type 1} → statement M
 answer-spec =

@@ -31,18 +31,18 @@ reduced-requires c κs = omega (arith, c .shared-slice-known2 .given (c .before 
 
 loop-again : tie.Need-loop-again Inv-loop μ-loop
 loop-again c =
-    let c1 = c .before in let c4 = c1 .before .before .before in let c6 = c4 .before .before in (
+    let low = c .before in let turn = low .before .before .before in let l = turn .loop in (
       search needs,
       search needs,
       search needs,
-      rw (c .reduced2 .ensures .0, c1 .reduced .ensures .0)
-          (sym (sums-next (c4 .loop .low) (c4 .loop .high) (now (c6 .args .bytes)) (c4 .loop .i) (omega arith)) ∙ c4 .loop .inv .3),
+      rw (c .reduced2 .ensures .0, low .reduced .ensures .0)
+          (sym (sums-next (l .low) (l .high) (now (turn .before .before .args .bytes)) (l .i) (omega arith)) ∙ l .inv .3),
     )
 
 returns : tie.Need-returns Inv-loop μ-loop
 returns c =
-    let c1 = c .before in let c3 = c1 .before .before in
-    sym (sums-end (c1 .loop .low) (c1 .loop .high) (now (c3 .args .bytes)) (c1 .loop .i) (omega arith)) ∙ c1 .loop .inv .3
+    let l = c .before .loop in
+    sym (sums-end (l .low) (l .high) (now (c .before .before .before .args .bytes)) (l .i) (omega arith)) ∙ l .inv .3
 
 pub adler32-spec : {M : Type 1} → statement M
 adler32-spec =

@@ -18,29 +18,32 @@ Inv-loop digits bytes₀ n i₀ bytes i = (i ≤ n) × (length bytes ≡ length 
 abbrev μ-loop : tie.MeasureT-loop
 μ-loop digits bytes₀ n i₀ bytes i = n - i
 
+-- From the second test, which the loop follows: the start. From a pair's second digit: its turn of the loop.
+abbrev start : tie.Else2 Inv-loop μ-loop → tie.Start Inv-loop μ-loop
+start c = c .before .before .before .before
+
+abbrev turn : tie.After-digit2 Inv-loop μ-loop → tie.At-loop Inv-loop μ-loop
+turn c = c .before .before .before .before .before
+
 loop-holds : tie.Need-loop-holds Inv-loop μ-loop
-loop-holds c =
-    let c4 = c .before .before .before .before in
-    (omega arith, refl, passed-none (now (c4 .args .digits)) (now (c4 .args .bytes)))
+loop-holds c = let s = start c .args in (omega arith, refl, passed-none (now (s .digits)) (now (s .bytes)))
 
 returns : tie.Need-returns Inv-loop μ-loop
-returns c = let c3 = c .before .before .before in decodes-odd (now (c3 .args .digits)) (now (c3 .args .bytes)) (c .if1 .taken)
+returns c = let s = c .before .before .before .args in decodes-odd (now (s .digits)) (now (s .bytes)) (c .if1 .taken)
 
 returns-2 : tie.Need-returns-2 Inv-loop μ-loop
 returns-2 c =
-    let c1 = c .before in let c4 = c1 .before .before .before in
-    decodes-short (now (c4 .args .digits)) (now (c4 .args .bytes)) (c1 .if1 .left) (c .if2 .taken)
+    let s = c .before .before .before .before .args in
+    decodes-short (now (s .digits)) (now (s .bytes)) (c .before .if1 .left) (c .if2 .taken)
 
 -- one of the pair is no digit
-stops : (c : tie.After-digit2 Inv-loop μ-loop)
-    → let c2 = c .before .before in let c5 = c2 .before .before .before in let c10 = c5 .before .before .before .before .before in
-    (15 < c2 .digit .result) ⊎ (15 < c .digit2 .result)
-    → Decodes (now (c10 .args .digits)) (now (c10 .args .bytes)) Nothing (c5 .loop .bytes)
+stops : (c : tie.After-digit2 Inv-loop μ-loop) → (15 < c .before .before .digit .result) ⊎ (15 < c .digit2 .result)
+    → let s = start (turn c .before) .args in
+    Decodes (now (s .digits)) (now (s .bytes)) Nothing (turn c .loop .bytes)
 stops c e =
-    let c2 = c .before .before in let c5 = c2 .before .before .before in let c6 = c5 .before in let c7 = c6 .before in
-    let c10 = c7 .before .before .before in
-    decodes-part (now (c10 .args .digits)) (now (c10 .args .bytes)) (c7 .if1 .left) (c6 .if2 .left) (c5 .loop .i) (c5 .loop .bytes)
-    (c5 .loop .inv .2) (omega arith) (rw (← c2 .digit .ensures .0, ← c .digit2 .ensures .0) e)
+    let t = turn c in let room = t .before in let s = start room .args in
+    decodes-part (now (s .digits)) (now (s .bytes)) (room .before .if1 .left) (room .if2 .left) (t .loop .i) (t .loop .bytes)
+    (t .loop .inv .2) (omega arith) (rw (← c .before .before .digit .ensures .0, ← c .digit2 .ensures .0) e)
 
 returns-3 : tie.Need-returns-3 Inv-loop μ-loop
 returns-3 c = stops (c .before) (inl (c .if3 .taken))
@@ -50,20 +53,18 @@ returns-4 c = stops (c .before .before) (inr (c .if4 .taken))
 
 loop-again : tie.Need-loop-again Inv-loop μ-loop
 loop-again c =
-    let c2 = c .before .before in let c4 = c2 .before .before in let c7 = c4 .before .before .before in
-    let c8 = c7 .before in let c9 = c8 .before in let c12 = c9 .before .before .before in
-    let next = passed-next (now (c12 .args .digits)) (now (c12 .args .bytes)) (c9 .if1 .left) (c8 .if2 .left) (c7 .loop .i)
-    (c7 .loop .bytes) (c7 .loop .inv .2) (omega arith) (omega arith)
-    (omega (arith, c4 .digit .ensures .0))
-    (omega (arith, c2 .digit2 .ensures .0)) in
-    (search needs, search needs, rw (c4 .digit .ensures .0, c2 .digit2 .ensures .0) next)
+    let low = c .before .before in let high = low .before .before in
+    let t = turn low in let room = t .before in let s = start room .args in
+    let next = passed-next (now (s .digits)) (now (s .bytes)) (room .before .if1 .left) (room .if2 .left) (t .loop .i)
+    (t .loop .bytes) (t .loop .inv .2) (omega arith) (omega arith) (omega (arith, high .digit .ensures .0))
+    (omega (arith, low .digit2 .ensures .0)) in
+    (search needs, search needs, rw (high .digit .ensures .0, low .digit2 .ensures .0) next)
 
 returns-5 : tie.Need-returns-5 Inv-loop μ-loop
 returns-5 c =
-    let c1 = c .before in let c2 = c1 .before in let c3 = c2 .before in let c6 = c3 .before .before .before in
-    decodes-all (now (c6 .args .digits)) (now (c6 .args .bytes)) (c3 .if1 .left) (c2 .if2 .left)
-    (c1 .loop .i) (c1 .loop .bytes) (c1 .loop .inv .2)
-    (omega arith)
+    let t = c .before in let room = t .before in let s = start room .args in
+    decodes-all (now (s .digits)) (now (s .bytes)) (room .before .if1 .left) (room .if2 .left) (t .loop .i) (t .loop .bytes)
+    (t .loop .inv .2) (omega arith)
 
 pub decode-spec : {M : Type 1} → statement M
 decode-spec =

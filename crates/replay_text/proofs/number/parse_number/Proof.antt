@@ -15,15 +15,16 @@ returns c = sym (number-none (now (c .before .before .args .word)) (c .if1 .take
 
 returns-2 : tie.Need-returns-2
 returns-2 c =
-    let c2 = c .before .before in let c4 = c2 .before .before in let c6 = c4 .before .before in
-    c .digits-in-base .ensures ∙ rw
-    (take-all (length (now (c6 .args .word)) - 1) (drop 1 (now (c6 .args .word))) (simp length-drop (omega arith)))
-    (sym (number-hex (now (c6 .args .word)) (c4 .if1 .left) (c2 .if2 .taken)))
+    let dollar = c .before .before in let nonempty = dollar .before .before in
+    let word = now (nonempty .before .before .args .word) in
+    c .digits-in-base .ensures ∙ rw (take-all (length word - 1) (drop 1 word) (simp length-drop (omega arith)))
+    (sym (number-hex word (nonempty .if1 .left) (dollar .if2 .taken)))
 
 returns-3 : tie.Need-returns-3
 returns-3 c =
-    let c1 = c .before in let c3 = c1 .before .before in let c5 = c3 .before .before in
-    c .digits-in-base2 .ensures ∙ sym (number-decimal (now (c5 .args .word)) (c3 .if1 .left) (c1 .if2 .left))
+    let digits = c .before in let nonempty = digits .before .before in
+    c .digits-in-base2 .ensures
+    ∙ sym (number-decimal (now (nonempty .before .before .args .word)) (nonempty .if1 .left) (digits .if2 .left))
 
 pub parse-number-spec : {M : Type 1} → statement M
 parse-number-spec =

@@ -17,23 +17,25 @@ Inv-loop out₀ at bytes end₀ i₀ out end i =
 abbrev μ-loop : tie.MeasureT-loop
 μ-loop out₀ at bytes end₀ i₀ out end i = length bytes - i
 
+abbrev start : tie.At-loop Inv-loop μ-loop → tie.Start Inv-loop μ-loop
+start turn = turn .before .before .before
+
 loop-holds : tie.Need-loop-holds Inv-loop μ-loop
 loop-holds c = (omega arith, refl, refl)
 
 loop-again : tie.Need-loop-again Inv-loop μ-loop
 loop-again c =
-    let c2 = c .before .before in let c6 = c2 .before .before .before .before in let c9 = c6 .before .before .before in (
+    let put = c .before .before in let turn = put .before .before .before .before in let l = turn .loop in (
       search needs,
       search needs,
-      rw (c2 .put .ensures)
-          (sym (put-next (putTo (c6 .loop .out) (c6 .loop .end)) (now (c9 .args .bytes)) (c6 .loop .i) (omega arith))
-          ∙ c6 .loop .inv .2),
+      rw (put .put .ensures)
+          (sym (put-next (putTo (l .out) (l .end)) (now (start turn .args .bytes)) (l .i) (omega arith)) ∙ l .inv .2),
     )
 
 returns : tie.Need-returns Inv-loop μ-loop
 returns c =
-    let c1 = c .before in let c4 = c1 .before .before .before in
-    sym (put-end (putTo (c1 .loop .out) (c1 .loop .end)) (now (c4 .args .bytes)) (c1 .loop .i) (omega arith)) ∙ c1 .loop .inv .2
+    let l = c .before .loop in
+    sym (put-end (putTo (l .out) (l .end)) (now (start (c .before) .args .bytes)) (l .i) (omega arith)) ∙ l .inv .2
 
 pub put-all-spec : {M : Type 1} → statement M
 put-all-spec =

@@ -8,9 +8,9 @@ use Rattle.replay_text.proofs.out.put_decimal.Tie as tie
 
 returns : tie.Need-returns
 returns c =
-    let c2 = c .before .before in let c5 = c2 .before .before .before in let c8 = c5 .before .before .before in
-    let e = decimal-digits 19 (c8 .args .n) (c5 .decimal .result) (c5 .decimal .ensures .1 .0) (omega arith) in
-    c2 .put-all .ensures ∙ rw (c5 .decimal .ensures .1 .1, e)
+    let put = c .before .before in let digits = put .before .before .before in let start = digits .before .before .before in
+    let e = decimal-digits 19 (start .args .n) (digits .decimal .result) (digits .decimal .ensures .1 .0) (omega arith) in
+    put .put-all .ensures ∙ rw (digits .decimal .ensures .1 .1, e)
 
 pub put-decimal-spec : {M : Type 1} → statement M
 put-decimal-spec =

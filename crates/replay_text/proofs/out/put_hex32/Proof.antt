@@ -1,27 +1,18 @@
 -- The high half, then the low one.
-use Prim.Native.Nat.{_%_, _/_}
-use mathlib.Core.Path.{sym, _∙_}
 use denote.Ref.{now}
 use borrow.Author.Needs.{needs}
 use Rattle.replay_text.specs.Out.{putTo}
-use Rattle.replay_text.proofs.Laws.Out.{put-append}
 use Rattle.replay_text.specs.Hex.{hex16}
+use Rattle.replay_text.proofs.Laws.Out.{put-halves}
 use Rattle.replay_text.proofs.out.put_hex32.Statement.{statement}
 use Rattle.replay_text.proofs.out.put_hex32.Tie as tie
 
 returns : tie.Need-returns
 returns c =
-    let c2 = c .before .before in let c6 = c2 .before .before .before .before in let c9 = c6 .before .before .before in
-    c2 .put-hex162 .ensures ∙ rw (c6 .put-hex16 .ensures)
-    (sym (put-append (putTo (now (c9 .args .out)) (c9 .args .at)) (hex16 (c9 .args .n / 65536)) (hex16 (c9 .args .n % 65536))))
+    let low = c .before .before in let high = low .before .before .before .before in
+    let s = high .before .before .before .args in
+    put-halves hex16 65536 (putTo (now (s .out)) (s .at)) (s .n) (high .put-hex16 .ensures) (low .put-hex162 .ensures)
 
 pub put-hex32-spec : {M : Type 1} → statement M
 put-hex32-spec =
-    tie.close
-    (tie.spec
-    (λ c. search needs)  -- cast-put-hex16
-    (λ c κs. search needs)  -- put-hex16-requires
-    (λ c. search needs)  -- cast-put-hex16-2
-    (λ c κs. search needs)  -- put-hex16-requires-2
-    (λ c. search needs)  -- same-length
-    returns)
+    tie.close (tie.spec (λ c. search needs) (λ c κs. search needs) (λ c. search needs) (λ c κs. search needs) (λ c. search needs) returns)

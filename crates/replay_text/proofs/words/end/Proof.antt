@@ -22,21 +22,15 @@ loop-holds c = (omega arith, omega arith, refl)
 
 returns : tie.Need-returns Inv-loop μ-loop
 returns c =
-    let c3 = c .before .before .before in let c4 = c3 .before in (
-      search needs,
-      search needs,
-      omega
-          (arith, rw (eq-eqb _ _ (c .if1 .taken)) at (word-next (now (c4 .args .line)) (c3 .loop .i) (omega arith))),
-    )
+    let turn = c .before .before .before in
+    let next = word-next (now (turn .before .args .line)) (turn .loop .i) (omega arith) in
+    (search needs, search needs, omega (arith, rw (eq-eqb _ _ (c .if1 .taken)) at next))
 
 loop-again : tie.Need-loop-again Inv-loop μ-loop
 loop-again c =
-    let c3 = c .before .before .before in let c4 = c3 .before in (
-      search needs,
-      search needs,
-      omega
-          (arith, rw (ne-eqb _ _ (c .if1 .left)) at (word-next (now (c4 .args .line)) (c3 .loop .i) (omega arith))),
-    )
+    let turn = c .before .before .before in
+    let next = word-next (now (turn .before .args .line)) (turn .loop .i) (omega arith) in
+    (search needs, search needs, omega (arith, rw (ne-eqb _ _ (c .if1 .left)) at next))
 
 returns-2 : tie.Need-returns-2 Inv-loop μ-loop
 returns-2 c =

@@ -21,8 +21,8 @@ loop-holds c = (omega arith, omega arith, omega arith)
 
 loop-again : tie.Need-loop-again Inv-loop μ-loop
 loop-again c =
-    let c3 = c .before .before .before in let c5 = c3 .before .before in
-    (search needs, search needs, omega (arith, spaces-next (now (c5 .args .line)) (c3 .loop .i) (omega arith)))
+    let turn = c .before .before .before in
+    (search needs, search needs, omega (arith, spaces-next (now (turn .before .before .args .line)) (turn .loop .i) (omega arith)))
 
 returns : tie.Need-returns Inv-loop μ-loop
 returns c = omega (arith, spaces-end (now (c .before .before .before .args .line)) (c .before .loop .i) (omega arith))

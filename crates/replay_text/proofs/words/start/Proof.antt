@@ -21,22 +21,20 @@ loop-holds c = (omega arith, refl)
 
 returns : tie.Need-returns Inv-loop μ-loop
 returns c =
-    let c2 = c .before .before in let c4 = c2 .before .before in
-    (search needs, sym (behind-none (drop (c2 .loop .i) (now (c4 .args .line)))) ∙ rw (← c .if1 .taken) (c2 .loop .inv .1))
+    let turn = c .before .before in
+    let rest = drop (turn .loop .i) (now (turn .before .before .args .line)) in
+    (search needs, sym (behind-none rest) ∙ rw (← c .if1 .taken) (turn .loop .inv .1))
 
 loop-again : tie.Need-loop-again Inv-loop μ-loop
 loop-again c =
-    let c2 = c .before .before in let c4 = c2 .before .before in let c6 = c4 .before .before in (
-      search needs,
-      rw (c .is-space .ensures .0)
-          (sym (behind-next (c4 .loop .left) (now (c6 .args .line)) (c4 .loop .i) (omega (arith, c2 .if1 .left)) (omega arith))
-          ∙ c4 .loop .inv .1),
-    )
+    let more = c .before .before in let turn = more .before .before in let l = turn .loop in
+    let next = behind-next (l .left) (now (turn .before .before .args .line)) (l .i) (omega (arith, more .if1 .left)) (omega arith) in
+    (search needs, rw (c .is-space .ensures .0) (sym next ∙ l .inv .1))
 
 returns-2 : tie.Need-returns-2 Inv-loop μ-loop
 returns-2 c =
-    let c1 = c .before in let c3 = c1 .before .before in
-    (search needs, sym (behind-end (c1 .loop .left) (now (c3 .args .line)) (c1 .loop .i) (omega arith)) ∙ c1 .loop .inv .1)
+    let turn = c .before in let l = turn .loop in
+    (search needs, sym (behind-end (l .left) (now (turn .before .before .args .line)) (l .i) (omega arith)) ∙ l .inv .1)
 
 pub start-spec : {M : Type 1} → statement M
 start-spec =

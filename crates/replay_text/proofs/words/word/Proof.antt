@@ -11,10 +11,10 @@ use Rattle.replay_text.proofs.words.word.Tie as tie
 
 returns : tie.Need-returns
 returns c =
-    let c1 = c .before in let c2 = c1 .before in let c4 = c2 .before .before in
-    let h : c1 .end .result - c2 .start .result ≡ wordLength (drop (c2 .start .result) (now (c4 .args .line))) = omega
-    (arith, c1 .end .ensures) in
-    rw (h, c2 .start .ensures .1)
+    let end = c .before in let first = end .before in
+    let rest = drop (first .start .result) (now (first .before .before .args .line)) in
+    let h : end .end .result - first .start .result ≡ wordLength rest = omega (arith, end .end .ensures) in
+    rw (h, first .start .ensures .1)
 
 pub word-spec : {M : Type 1} → statement M
 word-spec =
