@@ -1,5 +1,5 @@
 -- What an accepted load knows, and that a fresh memory has its sizes in range.
-use Prim.Native.Nat.{ℕ, _+_, _*_, _/_, _≤_, _<_}
+use Prim.Native.Nat.{ℕ, _+_, _*_, _/_, _^_, _≤_, _<_}
 use mathlib.Core.Path.{_≡_, refl}
 use mathlib.Core.Bool.{Bool, true, false, cond, _&&_}
 use native.Mathlib.Omega.{arith}
@@ -27,7 +27,7 @@ sized-load mapper sizes h = record { layout = layout-good sizes (h .within); use
 
 -- a mapper number, and sizes that fit it
 pub record LoadGood (mapper : ℕ) (sizes : MemoryLayout) : Type 0 where
-  pub small : mapper < 65536
+  pub small : mapper < 2 ^ 16
   pub fits : LoadFits mapper sizes
 
 pub load-good : (mapper : ℕ) (sizes : MemoryLayout) (len : ℕ) → firstOf (loadChecks mapper sizes len) ≡ 0 → LoadGood mapper sizes
@@ -42,7 +42,7 @@ load-good mapper sizes len e =
           };
     }
   where
-    number : (t : Bool) → eqb mapper 19 ≡ t → mapperOk mapper ≡ true → mapper < 65536
+    number : (t : Bool) → eqb mapper 19 ≡ t → mapperOk mapper ≡ true → mapper < 2 ^ 16
     number true q m = omega (arith, eqb-true mapper 19 q)
     number false q m = omega (arith, eqb-true mapper 210 (rw q at m))
 

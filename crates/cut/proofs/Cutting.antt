@@ -3,16 +3,13 @@ use Prim.Native.Nat.{ℕ, zero, suc, _+_}
 use mathlib.Core.Path.{_≡_, refl, sym, ap, _∙_}
 use mathlib.Core.List.{List, [], _∷_, _++_}
 use native.Mathlib.Nat.{zero-add}
-use lib.ListN.{length, take, drop}
+use lib.ListN.{length, drop}
+use lib.Seq.{take-append-seam}
 use Rattle.cut.specs.Calls.{Call, run, other, Board, Trace, last, then, Observed, withRun, Point, from, start, afterRun, noted, Outline, outline}
 use Rattle.cut.specs.Machine.{Paper, ticks, machineRun, otherOf, machine}
 use Rattle.cut.specs.Contract.{runBy, Keeps, OneRise}
 use Rattle.cut.specs.Demand3.{observed, AsMachine, CutBlind}
 use Rattle.cut.proofs.Machine.{ticks-add, ticks-clocks, behind, ticks-behind, tells}
-
-take-front : {A : Type 0} (xs ys : List A) → take (length xs) (xs ++ ys) ≡ xs
-take-front [] ys = refl
-take-front (x ∷ xs) ys = ap (x ∷_) (take-front xs ys)
 
 -- what a list tells, without its runs' refusal numbers
 abbrev seen : {State Sample Arg Answer : Type 0} → Observed State Sample Arg Answer → Trace Sample Arg Answer × State
@@ -62,7 +59,7 @@ module _ {State Sample Arg Answer : Type 0} (board : Board State Sample Arg Answ
         stretch =
             record {
               clocks = p .stretch .clocks + n;
-              samples = p .stretch .samples ++ take-front (t .stretch .samples) (drop (length (t .stretch .samples)) lent) i;
+              samples = p .stretch .samples ++ take-append-seam (t .stretch .samples) (drop (length (t .stretch .samples)) lent) i;
               rises = p .stretch .rises ++ sym
                   (tells (paper .clock) n (p .count) (p .state) (once .one n (length lent) (p .state) e)) i;
             };

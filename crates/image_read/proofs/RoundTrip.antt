@@ -1,5 +1,5 @@
 -- The image's promises: "Reading what a state in range was written to gives that state, and writing what an accepted image was read to
--- gives the same 307 bytes", and an image is accepted exactly where it has `imageBytes` bytes and its fields are in range.
+-- gives the same" bytes, and an image is accepted exactly where it has `imageBytes` bytes and its fields are in range.
 use mathlib.Core.Path.{_≡_, refl, sym, ap, ap₂, _∙_, subst}
 use mathlib.Core.Bool.{true, _&&_}
 use mathlib.Core.List.{List}

@@ -1,4 +1,4 @@
--- 01 "Host and image": "The image is 307 bytes, bit-packed, most significant first": the widths of its fields and a state's values for
+-- 01 "Host and image": the image is "bit-packed, most significant first": the widths of its fields and a state's values for
 -- them, in 01's order, as lists of parts. "Arrays go from index 0."
 use Prim.Native.Nat.{ℕ, _/_}
 use mathlib.Core.List.{List, [], _∷_, _++_, map}

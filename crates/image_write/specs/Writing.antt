@@ -1,4 +1,4 @@
--- Image writing: "An image, to read or to write, is not 307 bytes", then "A state or image field is out of range".
+-- Image writing: refused by the length, then where "A state or image field is out of range".
 use Prim.Native.Nat.{ℕ}
 use mathlib.Core.Bool.{not}
 use mathlib.Core.List.{List, [], _∷_}
@@ -8,7 +8,7 @@ use Rattle.board_state.specs.declared.State.{State}
 use Rattle.call_refusals.specs.Refusals.{Check, firstOf, unlessKept, stateCheck}
 use Rattle.image_write.specs.Image.{imageBytes, imageOf}
 
--- "1. An image, to read or to write, is not 307 bytes."
+-- "1. An image, to read or to write, is not" of its length
 abbrev pub imageCheck : ℕ → Check
 imageCheck len = record { number = 1; holds = not (eqb len imageBytes) }
 

@@ -1,7 +1,8 @@
--- What is promised, as theorems, for a reader who opens one file: each statement is over definitions of specs/, and its proof cites where it is shown. The
--- public calls are contracted by the same definitions (crates/call_*/src, crates/image_*/src, crates/host/src), and none has a `requires`.
+-- What is promised, as theorems, for a reader who opens one file: each statement is over definitions of specs/, and its proof cites
+-- where it is shown. The public calls are contracted by the same definitions (crates/call_*/src, crates/image_*/src, crates/host/src),
+-- and none has a `requires`.
 use Prim.Native.Nat.{ℕ, _+_, _^_, _<_}
-use mathlib.Core.Path.{_≡_}
+use mathlib.Core.Path.{_≡_, refl}
 use mathlib.Core.Bool.{false}
 use mathlib.Core.List.{List, _++_}
 use mathlib.Core.Logic.{_⊎_}
@@ -16,6 +17,7 @@ use Rattle.board_state.specs.declared.State.{State}
 use Rattle.board_state.specs.State.{Known}
 use Rattle.call_refusals.specs.Refusals.{firstOf}
 use Rattle.call_run.specs.Run.{runChecks, runGave}
+use Rattle.call_run.proofs.run.Laws.{refused-run}
 use Rattle.image_write.specs.Image.{imageOf}
 use Rattle.image_read.specs.Reading.{readImage}
 use Rattle.image_read.proofs.RoundTrip.{read-written, written-read}
@@ -27,7 +29,7 @@ use Rattle.thm_machine.specs.Counter.{counterOf, lineOf, NoneTouches}
 use Rattle.thm_machine.proofs.Demand3 as Machine
 use Rattle.thm_range.specs.Fit.{Fit}
 use Rattle.thm_range.proofs.Lists.{always-fit, never-2-or-7}
-use Rattle.thm_range.proofs.Refused.{other-refused, run-refused}
+use Rattle.thm_range.proofs.Refused.{other-refused}
 
 -- ---- demand 1: an unfit call gets the number of its first check that holds, and leaves state, arena and samples as they were
 
@@ -37,7 +39,7 @@ demand-1 = other-refused
 
 pub demand-1-run : (s : State) (n : ℕ) (lent : List Float) → (firstOf (runChecks s n (length lent)) ≡ 0 → ⊥)
     → runGave s n lent ≡ record { refusal = firstOf (runChecks s n (length lent)); made = 0; rise = 0; samples = lent; state = s }
-demand-1-run = run-refused
+demand-1-run s n lent = refused-run s n lent (firstOf (runChecks s n (length lent))) refl
 
 -- ---- demand 2, what of it is a theorem: from every load, after every list, the state is known and the arena fits it, so 2 and 7 never come
 

@@ -1,21 +1,18 @@
--- "Each returns its number and leaves state and lent buffers unaltered": what a refused call answers and leaves, and an accepted one. The calls of a list by
--- one theorem over them; what it says of a single call's answer is `refused-is`, `accepted-is` and `number-is` of call_refusals.
+-- "Each returns its number and leaves state and lent buffers unaltered": what a refused call answers and leaves, and an accepted one. The
+-- calls of a list by one theorem over them; what it says of a single call's answer is `refused-is`, `accepted-is` and `number-is` of
+-- call_refusals, and of a run's `refused-run` of call_run.
 use Prim.Native.Nat.{ℕ, zero, suc}
 use mathlib.Core.Path.{_≡_, refl}
 use mathlib.Core.Bool.{Bool}
 use mathlib.Core.List.{List}
-use lib.Ieee.{Float}
 use lib.ListN.{length}
 use Rattle.cut.specs.Calls.{Gave, refused, answered}
 use Rattle.cut.specs.Machine.{Answered, plainly}
 use Rattle.memory.specs.declared.layout.MemoryLayout.{MemoryLayout}
-use Rattle.board_state.specs.declared.State.{State}
 use Rattle.board_state.specs.None.{noState}
 use Rattle.call_refusals.specs.Refusals.{Check, firstOf, loadChecks}
 use Rattle.call_refusals.proofs.Laws.{refused-is}
 use Rattle.call_load.specs.Cartridge.{loadAnswer, loadArena}
-use Rattle.call_run.specs.Run.{runChecks, runGave}
-use Rattle.call_run.proofs.run.Laws.{refused-run}
 use Rattle.thm_machine.specs.Calls.{Held, Other, Answer}
 use Rattle.thm_machine.specs.Paper.{checks, answers}
 use Rattle.thm_machine.specs.Board.{otherGives}
@@ -40,12 +37,6 @@ other-refused a h n = rw (keeps-other a h) (plainly-refused (firstOf (checks a h
 pub other-accepted : (a : Other) (h : Held) → Accepted (checks a h)
     → otherGives a h ≡ record { reply = answered (answers a h .answer); state = answers a h .state }
 other-accepted a h e = rw (keeps-other a h, e)
-
--- ---- the run: 0 in each other field, and state and samples as they were
-
-pub run-refused : (s : State) (n : ℕ) (lent : List Float) → Refused (runChecks s n (length lent))
-    → runGave s n lent ≡ record { refusal = firstOf (runChecks s n (length lent)); made = 0; rise = 0; samples = lent; state = s }
-run-refused s n lent h = refused-run s n lent (firstOf (runChecks s n (length lent))) refl h
 
 -- ---- the load: a state that no call accepts, and the arena as it was
 

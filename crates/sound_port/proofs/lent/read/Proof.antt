@@ -70,9 +70,6 @@ stayed = (stay-ref (0 ∷ []) tt (plain (λ _. T.the-row)), tt)
 abbrev port-val : Port → Val
 port-val = LL.val T.the-type T′.the-laws
 
-abbrev read-val : PortRead → Val
-read-val = LL.val S.the-type S′.the-laws
-
 -- what whoever holds a read's answer knows of its parts
 byte-fits : (r : PortRead) (v : Val) → Is S.the-row r (v ∷ []) → r .byte < 2 ^ 8
 byte-fits r v is = LL.owed S.the-type S′.the-laws r _ is .0 .1
