@@ -64,8 +64,8 @@ fn map_slots(chip: Namco163, m: Memory, n: u16) -> Memory
     out
 }
 
-// On a 163 the nametables are slots like the others, each CHR or CIRAM, so that the board says patterns and nametables in one way. A 210 has no registers for
-// them: they are wired on a 175 and come from E000 on a 340.
+// On a 163 the nametables are slots like the others, each CHR or CIRAM, so that the board says patterns and nametables in one way. A 210
+// has no registers for them: they are wired on a 175 and come from E000 on a 340.
 fn map_chr_table(chip: Namco163, m: Memory) -> Memory
     requires { ⌜ Sized m ⌝ }
     ensures { λ r. ⌜ (r ≡ mapChrTable chip m) × (Sized r) ⌝ }

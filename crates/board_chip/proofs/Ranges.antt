@@ -1,5 +1,5 @@
--- A definition that goes by ranges tests one limit after the other, lowest first. An address from b on is past every limit up to b, and one below b is
--- short of every limit from b on: so the proof of a range names its lower limit and its upper one.
+-- A definition that goes by ranges tests one limit after the other, lowest first. An address from b on is past every limit up to b, and one
+-- below b is short of every limit from b on: so the proof of a range names its lower limit and its upper one.
 use Prim.Native.Nat.{ℕ, _≤_, _<_}
 use mathlib.Core.Path.{_≡_}
 use mathlib.Core.Bool.{true, false}

@@ -16,8 +16,8 @@ unfoldable pub boardAtLoad : ℕ → ℕ → Board
 boardAtLoad mapper sub =
     cond (eqb mapper 19) Is163 (cond (eqb mapper 210) (cond (eqb sub 1) Namco175 (cond (eqb sub 2) Namco340 Unknown)) Unknown)
 
--- "Mapper 19 starts as 163, detecting if no database entry exists." A 210 of another submapper is detecting even with one. No other mapper is loaded; the
--- Rust's match has an arm for it.
+-- "Mapper 19 starts as 163, detecting if no database entry exists." A 210 of another submapper is detecting even with one. No other mapper
+-- is loaded; the Rust's match has an arm for it.
 unfoldable pub detectingAtLoad : ℕ → ℕ → Bool → Bool
 detectingAtLoad mapper sub known =
     cond (eqb mapper 19) (not known) (cond (eqb mapper 210) (cond (eqb sub 1) false (cond (eqb sub 2) false true)) false)

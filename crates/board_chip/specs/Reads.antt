@@ -1,4 +1,5 @@
--- What the board itself answers to a CPU read, the Rust's `prg_read` and `prg_peek`: the sound port and the counter. Elsewhere memory answers.
+-- What the board itself answers to a CPU read, the Rust's `prg_read` and `prg_peek`: the sound port and the counter. Elsewhere memory
+-- answers.
 use Prim.Native.Nat.{ℕ, _/_, _%_}
 use mathlib.Core.Bool.{cond}
 use lib.Dec.{ltb}

@@ -1,5 +1,5 @@
--- The Rust's `reset`: "Reset, soft too, sets the sound to `Audio::new`, marks slots 8..11 CIRAM bank 0 and clears the written flag; hard also clears
--- `Regs`." Board, mirroring, other banks stay.
+-- The Rust's `reset`: "Reset, soft too, sets the sound to `Audio::new`, marks slots 8..11 CIRAM bank 0 and clears the written flag; hard
+-- also clears `Regs`." Board, mirroring, other banks stay.
 use Prim.Native.Nat.{ℕ}
 use mathlib.Core.Bool.{true, false}
 use mathlib.Core.List.{List}

@@ -31,8 +31,8 @@ impl Board {
 }
 
 impl Namco163 {
-    // Whether detection acts: a game that stores into work RAM while the board looks like a 340 has none of the 163's registers in mind, so that board
-    // is settled until the next reset.
+    // Whether detection acts: a game that stores into work RAM while the board looks like a 340 has none of the 163's registers in mind, so
+    // that board is settled until the next reset.
     fn may_change(self) -> bool
         ensures { λ r. ⌜ r ≡ mayChange self ⌝ }
     {

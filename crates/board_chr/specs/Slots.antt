@@ -8,7 +8,8 @@ use Rattle.board_chip.specs.declared.namco163.Namco163.{Namco163}
 use Rattle.board_chip.specs.Namco163.{is163, is175, withRegs, withSlots, withProtect}
 use Rattle.board_chip.specs.Detection.{maybeSetBoard}
 
--- "CIRAM needs a value of E0 or more, a 163, and for 8000..9FFF the low select clear, for A000..BFFF the high one; C000..DFFF has no such bit."
+-- "CIRAM needs a value of E0 or more, a 163, and for 8000..9FFF the low select clear, for A000..BFFF the high one; C000..DFFF has no such
+-- bit."
 unfoldable pub setsCiram : Namco163 → ℕ → ℕ → Bool
 setsCiram n a v =
     leb 0xE0 v && (is163 (n .board)
@@ -21,7 +22,8 @@ writeSlot n a v =
     let ciram = setsCiram n a v in
     withSlots n (set (n .«nt_bank_enable») slot ciram) (set (n .«chr_banks») slot (cond ciram (v % 2) v))
 
--- 8000..BFFF is `writeSlot`. C000..DFFF after detection: a 163's slot, a 175's protect byte, and nothing on a board without nametable registers.
+-- 8000..BFFF is `writeSlot`. C000..DFFF after detection: a 163's slot, a 175's protect byte, and nothing on a board without nametable
+-- registers.
 unfoldable pub writeNametable : Namco163 → ℕ → ℕ → Namco163
 writeNametable n a v = cond (is175 (n .board)) (withRegs n (withProtect (n .regs) v)) (cond (is163 (n .board)) (writeSlot n a v) n)
 

@@ -42,8 +42,8 @@ pub fn write_slot(chip: Namco163, addr: u16, val: u8) -> Namco163
     next
 }
 
-// C000..DFFF after detection. A 210 has no nametable registers: its mirroring is wired, or a 340's comes from E000, and a slot written here would override
-// it.
+// C000..DFFF after detection. A 210 has no nametable registers: its mirroring is wired, or a 340's comes from E000, and a slot written here
+// would override it.
 fn write_nametable(chip: Namco163, addr: u16, val: u8) -> Namco163
     requires { ⌜ (0x8000 ≤ addr) × (addr < 0xE000) ⌝ }
     ensures { λ r. ⌜ r ≡ writeNametable chip addr val ⌝ }

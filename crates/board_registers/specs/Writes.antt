@@ -1,5 +1,5 @@
--- The Rust's `write_register`, a definition for each range of addresses: detection first, then the register. Whether the tables are mapped anew is
--- `remaps`; the mapping itself is `update_banks`.
+-- The Rust's `write_register`, a definition for each range of addresses: detection first, then the register. Whether the tables are mapped
+-- anew is `remaps`; the mapping itself is `update_banks`.
 use Prim.Native.Nat.{ℕ, _+_, _*_, _/_, _%_}
 use mathlib.Core.Bool.{Bool, true, false, cond, not, _&&_, _||_}
 use lib.Dec.{eqb, leb, ltb}
@@ -32,7 +32,8 @@ writeCounterLow n v = let m = maybeSetBoard n Is163 in withRegs m (lowHalf (m .r
 unfoldable pub writeCounterHigh : Namco163 → ℕ → Namco163
 writeCounterHigh n v = let m = maybeSetBoard n Is163 in withRegs m (highHalf (m .regs) v)
 
--- 6000..7FFF: "The write to 6000..7FFF sets the written flag first, so its step from 340 to Unknown never happens." The step is here as in the Rust.
+-- 6000..7FFF: "The write to 6000..7FFF sets the written flag first, so its step from 340 to Unknown never happens." The step is here as in
+-- the Rust.
 unfoldable pub writeWorkRam : Namco163 → Namco163
 writeWorkRam n = let m = withWritten n true in cond (is340 (m .board)) (maybeSetBoard m Unknown) m
 

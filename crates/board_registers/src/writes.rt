@@ -72,8 +72,8 @@ pub fn write_register(chip: Namco163, addr: u16, val: u8) -> Namco163
     }
 }
 
-// Whether a write maps the tables anew: one to 8000..F7FF, also where the register kept its value, or one that changed the board. What is left, the sound
-// port, the counter, work RAM and the port's address, is written far more often than banks are.
+// Whether a write maps the tables anew: one to 8000..F7FF, also where the register kept its value, or one that changed the board. What is
+// left, the sound port, the counter, work RAM and the port's address, is written far more often than banks are.
 pub fn remaps(old: Board, new: Board, addr: u16) -> bool
     ensures { λ r. ⌜ r ≡ remaps old new addr ⌝ }
 {

@@ -1,6 +1,6 @@
--- 01 "Records": the state, and all that is known of it: when it is in range, as the test that refusal 2 makes and, beside it, as the facts that the test
--- gives; what the types of the fields say; and both together. The sound's part is in sound/specs/Range.antt, the memory's in memory/specs/Range.antt, and
--- every number in limits/specs/Limits.antt.
+-- 01 "Records": the state, and all that is known of it: when it is in range, as the test that refusal 2 makes and, beside it, as the facts
+-- that the test gives; what the types of the fields say; and both together. The sound's part is in sound/specs/Range.antt, the memory's in
+-- memory/specs/Range.antt, and every number in limits/specs/Limits.antt.
 use Prim.Native.Nat.{ℕ, _^_, _≤_, _<_}
 use mathlib.Core.Path.{_≡_}
 use mathlib.Core.Bool.{Bool, _&&_, _||_}

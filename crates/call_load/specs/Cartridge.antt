@@ -39,7 +39,8 @@ loadAnswer mapper sub flags known sizes len =
 unfoldable pub loadArena : ℕ → MemoryLayout → List ℕ → List ℕ
 loadArena mapper sizes arena = unlessKept (loadChecks mapper sizes (length arena)) arena (replicate (length arena) 0)
 
--- what an accepted load knows of its sizes: "5. A layout size is above its limit." and "6. A 163 load has a battery reserve of 0." do not hold
+-- what an accepted load knows of its sizes: "5. A layout size is above its limit." and "6. A 163 load has a battery reserve of 0." do not
+-- hold
 pub record LoadFits (mapper : ℕ) (sizes : MemoryLayout) : Type 0 where
   pub within : withinLimits sizes ≡ true
   pub reserve : mapper ≡ 19 → 1 ≤ sizes .«battery_ext»

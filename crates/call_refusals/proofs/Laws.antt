@@ -1,5 +1,5 @@
--- "conditions work both ways": a call is accepted exactly where none of its conditions holds, and refused by a number exactly where its condition is the
--- first that holds.
+-- "conditions work both ways": a call is accepted exactly where none of its conditions holds, and refused by a number exactly where its
+-- condition is the first that holds.
 use Prim.Native.Nat.{ℕ, _+_, _≤_, _<_}
 use mathlib.Core.Path.{_≡_, refl, sym, _∙_}
 use mathlib.Core.Bool.{Bool, true, false, cond}

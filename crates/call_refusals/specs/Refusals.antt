@@ -1,5 +1,5 @@
--- 01 "Refused calls, in checking order": the conditions and their numbers, and the checks that each call makes. "Each returns its number and leaves state
--- and lent buffers unaltered; a call skips what it doesn't take."
+-- 01 "Refused calls, in checking order": the conditions and their numbers, and the checks that each call makes. "Each returns its number
+-- and leaves state and lent buffers unaltered; a call skips what it doesn't take."
 use Prim.Native.Nat.{ℕ}
 use mathlib.Core.Bool.{Bool, cond, not, _&&_}
 use mathlib.Core.List.{List, [], _∷_}

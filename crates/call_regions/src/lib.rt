@@ -1,5 +1,5 @@
-// The public calls on the PPU's side and on regions: CHR read and write, fill, `region_peek`, `region_write` and `sram`. None has a `requires`: what does not
-// fit is refused by its number, and nothing is altered.
+// The public calls on the PPU's side and on regions: CHR read and write, fill, `region_peek`, `region_write` and `sram`. None has a
+// `requires`: what does not fit is refused by its number, and nothing is altered.
 use board_state::State;
 use call_answers::Peeked;
 use call_refusals::arena_refusal;

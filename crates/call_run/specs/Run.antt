@@ -39,8 +39,8 @@ roomCheck s n room = record { number = 11; holds = ltb room (made n s) }
 abbrev pub runChecks : State → ℕ → ℕ → List Check
 runChecks s n room = stateCheck s ∷ lengthCheck n ∷ roomCheck s n room ∷ []
 
--- "Run of n clocks, 0..=65,536: one `output` for each update, in order, into the samples, the rest untouched. It answers the samples made and the clock,
--- from 1, on which the counter reached FFFF, or 0."
+-- "Run of n clocks, 0..=65,536: one `output` for each update, in order, into the samples, the rest untouched. It answers the samples made
+-- and the clock, from 1, on which the counter reached FFFF, or 0."
 unfoldable pub runGave : State → ℕ → List Float → RunGave State Float
 runGave s n lent = runBy (firstOf (runChecks s n (length lent))) (clocks n s) lent s
 

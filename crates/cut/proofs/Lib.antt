@@ -1,5 +1,5 @@
--- The theorem is in Demand3. Machine has the laws of single clocks, Cutting and Rising are on lists of calls, Counter on clocks that rise at most once
--- in a run, and Pinned shows what the claims rule out.
+-- The theorem is in Demand3. Machine has the laws of single clocks, Cutting and Rising are on lists of calls, Counter on clocks that rise
+-- at most once in a run, and Pinned shows what the claims rule out.
 pub mod Machine
 pub mod Cutting
 pub mod Counter

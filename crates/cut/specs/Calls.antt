@@ -3,8 +3,8 @@ use Prim.Native.Nat.{ℕ, zero, suc, _+_}
 use mathlib.Core.List.{List, [], _∷_, _++_}
 use lib.ListN.{take}
 
--- A call, by what it is fed: "Arguments are all else that is lent, as it stands at the call." A run is fed a number of clocks and the samples
--- that are lent. Any other call is an `Arg`: which call it is, and its arguments, lent buffers among them.
+-- A call, by what it is fed: "Arguments are all else that is lent, as it stands at the call." A run is fed a number of clocks and the
+-- samples that are lent. Any other call is an `Arg`: which call it is, and its arguments, lent buffers among them.
 pub data Call (Sample Arg : Type 0) : Type 0 where
   run : ℕ → List Sample → Call Sample Arg
   other : Arg → Call Sample Arg
@@ -32,8 +32,8 @@ pub record Board (State Sample Arg Answer : Type 0) : Type 0 where
   pub run : ℕ → List Sample → State → RunGave State Sample
   pub other : Arg → State → Gave State Answer
 
--- "A stretch is the runs, maybe none, before the first other call, between two neighbouring ones or after the last; with no other call, all runs."
--- Of a stretch a host notes the clocks of its accepted runs, their samples and their rises.
+-- "A stretch is the runs, maybe none, before the first other call, between two neighbouring ones or after the last; with no other call, all
+-- runs." Of a stretch a host notes the clocks of its accepted runs, their samples and their rises.
 pub record Stretch (Sample : Type 0) : Type 0 where
   pub clocks : ℕ
   pub samples : List Sample

@@ -11,13 +11,14 @@ module _ {State Sample Arg Answer : Type 0} (board : Board State Sample Arg Answ
   abbrev pub observed : List (Call Sample Arg) → State → Observed State Sample Arg Answer
   observed calls s = noted board calls (start s)
 
-  -- "Stretch by stretch, samples and rises equal the machine's; so do the other calls' answers and written image bytes, every call's refusal
-  -- number, and at the end each state field and arena byte. An f32 is compared by its bits": samples that are equal here have equal bits.
+  -- "Stretch by stretch, samples and rises equal the machine's; so do the other calls' answers and written image bytes, every call's
+  -- refusal number, and at the end each state field and arena byte. An f32 is compared by its bits": samples that are equal here have equal
+  -- bits.
   abbrev pub AsMachine : Paper State Sample Arg Answer → Type 0
   AsMachine paper = (calls : List (Call Sample Arg)) (s : State) → observed calls s ≡ machine paper calls (start s)
 
-  -- "every second list from the same load that has the same calls other than runs, with the same arguments in the same order, and as many clocks in
-  -- each of 01's stretches": samples, rises, other calls' replies, end state and arena are the same.
+  -- "every second list from the same load that has the same calls other than runs, with the same arguments in the same order, and as many
+  -- clocks in each of 01's stretches": samples, rises, other calls' replies, end state and arena are the same.
   abbrev pub CutBlind : Type 0
   CutBlind =
       (calls others : List (Call Sample Arg)) (s : State) → outline (observed calls s .trace) ≡ outline (observed others s .trace)
@@ -31,9 +32,10 @@ module _ {State Sample Arg Answer : Type 0} (board : Board State Sample Arg Answ
       ((s : State) → (counter (board .other a s .state) ≡ counter s) × (line (board .other a s .state) ≡ line s))
       × Untouched counter line calls
 
-  -- "An enabled counter 0x8000 + n, n below 0x7FFF, line clear, neither written nor reset, first raises the line after exactly 0x7FFF − n clocks."
-  -- The list `first` leads from a load to such a counter. Of the calls after it no other call touches the counter or the line, and their accepted runs
-  -- make `more` clocks. With fewer than 0x7FFF − n they note no rise and leave the line clear. Else they note one, at that clock, and the line is up.
+  -- "An enabled counter 0x8000 + n, n below 0x7FFF, line clear, neither written nor reset, first raises the line after exactly 0x7FFF − n
+  -- clocks." The list `first` leads from a load to such a counter. Of the calls after it no other call touches the counter or the line, and
+  -- their accepted runs make `more` clocks. With fewer than 0x7FFF − n they note no rise and leave the line clear. Else they note one, at
+  -- that clock, and the line is up.
   pub record FirstRise (counter : State → ℕ) (line : State → Bool) (first rest : List (Call Sample Arg)) (s : State) (n more : ℕ) : Type 0 where
     pub early : more < 0x7FFF - n
         → (allRises (observed (first ++ rest) s .trace) ≡ allRises (observed first s .trace)) × (line (observed (first ++ rest) s .state) ≡ false)

@@ -1,5 +1,5 @@
--- Demand 3, over any board. Read Calls, Machine, Contract, Counter and Demand3, in this order. What stands in quotes is a sentence of 01, the scope
--- document, or of the demand; docs/PROMISES.md lists them all.
+-- Demand 3, over any board. Read Calls, Machine, Contract, Counter and Demand3, in this order. What stands in quotes is a sentence of 01,
+-- the scope document, or of the demand; docs/PROMISES.md lists them all.
 pub mod Calls
 pub mod Machine
 pub mod Contract

@@ -17,8 +17,8 @@ pub record Answered (State Answer : Type 0) : Type 0 where
   pub answer : Answer
   pub state : State
 
--- What the paper says: the single clock; the number by which a run of n with so many samples lent is refused, and that of any other call, 0 for
--- accepted; and what the other calls do when they are accepted.
+-- What the paper says: the single clock; the number by which a run of n with so many samples lent is refused, and that of any other call, 0
+-- for accepted; and what the other calls do when they are accepted.
 pub record Paper (State Sample Arg Answer : Type 0) : Type 0 where
   pub clock : State → Clocked State Sample
   pub refusesRun : ℕ → ℕ → State → ℕ

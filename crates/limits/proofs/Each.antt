@@ -1,5 +1,5 @@
--- What holds of two values holds of a choice of them; what holds of an element holds of what is read there after a store of a value that it holds of, and
--- of each of equal ones.
+-- What holds of two values holds of a choice of them; what holds of an element holds of what is read there after a store of a value that it
+-- holds of, and of each of equal ones.
 use Prim.Native.Nat.{ℕ, zero, suc, _<_}
 use mathlib.Core.Bool.{Bool, true, false, cond}
 use mathlib.Core.List.{List, [], _∷_}

@@ -1,5 +1,5 @@
--- The sound port as a struct, after 01's section "Sound": `read_register` hands back the byte and moves the address on if auto-increment is set, 7F going to 0.
--- An address of 128 or more stands for its remainder by 128, so nothing is asked of a port.
+-- The sound port as a struct, after 01's section "Sound": `read_register` hands back the byte and moves the address on if auto-increment is
+-- set, 7F going to 0. An address of 128 or more stands for its remainder by 128, so nothing is asked of a port.
 use Prim.Native.Nat.{ℕ, _+_, _%_}
 use mathlib.Core.Bool.{cond}
 use lib.ListN.{getD}

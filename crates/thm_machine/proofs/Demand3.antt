@@ -1,7 +1,8 @@
 -- Demand 3, whole, of this board.
 --
--- The board is what the contracts of its public calls give (specs/Board.antt). The paper is 01's single clock, refusals and answers (specs/Paper.antt).
--- The machine that is fed a list and the paper, and the claims, are those of crates/cut: specs/Machine.antt and specs/Demand3.antt.
+-- The board is what the contracts of its public calls give (specs/Board.antt). The paper is 01's single clock, refusals and answers
+-- (specs/Paper.antt). The machine that is fed a list and the paper, and the claims, are those of crates/cut: specs/Machine.antt and
+-- specs/Demand3.antt.
 use Prim.Native.Nat.{ℕ, _+_, _<_}
 use mathlib.Core.Path.{_≡_}
 use mathlib.Core.Bool.{false}
@@ -26,7 +27,8 @@ pub demand-3 : Demand3 board paper counterOf lineOf
 unfolding counter
 demand-3 = demand-3-of board paper counter keeps
 
--- "The list starts with an accepted load's state and zeroed arena": what a host observes of any list from there is what the plain machine does
+-- "The list starts with an accepted load's state and zeroed arena": what a host observes of any list from there is what the plain machine
+-- does
 pub as-machine : (l : Loaded) (calls : List (Call Float Other))
     → observed board calls (loaded l) ≡ machine paper calls (start (zeroed l))
 as-machine l calls = rw (load-starts l) (demand-3 .as-machine calls (zeroed l))
@@ -38,8 +40,8 @@ pub cut-blind : (l : Loaded) (calls others : List (Call Float Other))
     × (observed board calls (loaded l) .state ≡ observed board others (loaded l) .state)
 cut-blind l calls others e = demand-3 .cut-blind calls others (loaded l) e
 
--- "An enabled counter 0x8000 + n, n below 0x7FFF, line clear, neither written nor reset, first raises the line after exactly 0x7FFF − n clocks": the calls
--- `first` lead from any state to such a counter, and those of `rest` make `more` clocks
+-- "An enabled counter 0x8000 + n, n below 0x7FFF, line clear, neither written nor reset, first raises the line after exactly 0x7FFF − n
+-- clocks": the calls `first` lead from any state to such a counter, and those of `rest` make `more` clocks
 pub first-rise : (first rest : List (Call Float Other)) (h : Held) (n more : ℕ)
     → counterOf (observed board first h .state) ≡ 0x8000 + n
     → n < 0x7FFF

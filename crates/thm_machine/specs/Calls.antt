@@ -1,5 +1,5 @@
--- The calls of a list other than runs, with their arguments: "The calls after a load are CPU read, peek and write, CHR read and write, fill, `region_peek`,
--- `region_write`, `sram`, run, reset, battery sync and restore, and image writing."
+-- The calls of a list other than runs, with their arguments: "The calls after a load are CPU read, peek and write, CHR read and write,
+-- fill, `region_peek`, `region_write`, `sram`, run, reset, battery sync and restore, and image writing."
 use Prim.Native.Nat.{ℕ, _<_}
 use mathlib.Core.List.{List}
 use lib.Ieee.{Float}

@@ -1,4 +1,5 @@
--- 01's "Table of proved cases": the twelve cases as one table, by their loads and calls. Each line has what the definitions give and what it has to be.
+-- 01's "Table of proved cases": the twelve cases as one table, by their loads and calls. Each line has what the definitions give and what
+-- it has to be.
 use Prim.Native.Nat.{ℕ, _+_, _*_, _/_, _%_, _^_}
 use mathlib.Core.Bool.{Bool, true, false, _&&_}
 use mathlib.Core.List.{List, [], _∷_, _++_, map}

@@ -1,5 +1,5 @@
--- What 01 says of the board: the single clock, the refusal of each call, and what each accepted call answers and alters. It names neither the fast run nor
--- any answer of the code.
+-- What 01 says of the board: the single clock, the refusal of each call, and what each accepted call answers and alters. It names neither
+-- the fast run nor any answer of the code.
 use Prim.Native.Nat.{ℕ}
 use mathlib.Core.List.{List}
 use lib.Ieee.{Float}

@@ -1,5 +1,5 @@
--- "a list above, whose conditions work both ways": checks whose numbers rise are decided. A call is accepted exactly where none of its conditions holds, and
--- refused by a number exactly where that number's condition is the first that holds. Assumes nothing.
+-- "a list above, whose conditions work both ways": checks whose numbers rise are decided. A call is accepted exactly where none of its
+-- conditions holds, and refused by a number exactly where that number's condition is the first that holds. Assumes nothing.
 use Prim.Native.Nat.{ℕ, _≤_, _<_}
 use mathlib.Core.Path.{_≡_, refl}
 use mathlib.Core.Bool.{Bool, true, false, cond}

@@ -1,5 +1,6 @@
--- 01's list of refusals, a theorem for each number: a call answers it exactly where its condition holds and none of those that the call checks before it. They
--- hold of every list of checks that begins so; `Decided` of proofs/Decided.antt says which calls make them. Assumes nothing.
+-- 01's list of refusals, a theorem for each number: a call answers it exactly where its condition holds and none of those that the call
+-- checks before it. They hold of every list of checks that begins so; `Decided` of proofs/Decided.antt says which calls make them. Assumes
+-- nothing.
 use Prim.Native.Nat.{ℕ, _<_}
 use mathlib.Core.Path.{_≡_, refl}
 use mathlib.Core.Bool.{Bool, true, false, not, _&&_}
