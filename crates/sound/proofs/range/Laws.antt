@@ -131,6 +131,3 @@ owned a vs is r = record { typed = typed a vs is; range = r }
 
 pub ok-known : (a : Audio) (vs : List Val) → Is Row.the-row a vs → audioOk a ≡ true → Known a
 ok-known a vs is e = owned a vs is (audio-in a (typed a vs is) e)
-
-pub known-ok : (a : Audio) → Known a → audioOk a ≡ true
-known-ok a k = in-audio a (k .range)
