@@ -1,10 +1,7 @@
 -- `namco163_read` meets its contract: refused by the image, or on with its state.
-use mathlib.Core.Path.{sym, ap, _∙_}
+use mathlib.Core.Path.{_∙_}
 use native.Mathlib.Omega.{arith}
 use borrow.Author.Needs.{needs}
-use Rattle.image_write.specs.Image.{imageOf}
-use Rattle.image_read.specs.declared.reading.ReadImage.{ReadImage}
-use Rattle.image_read.proofs.RoundTrip.{written-read}
 use Rattle.board_state.specs.declared.State.{State}
 use Rattle.host_state.specs.HostState.{readGives, readOn}
 use Rattle.host.specs.Host.{cpuOwn, hostRead}
@@ -28,20 +25,16 @@ returns c =
     let e = call c3 .refused (c1 .if1 .taken) in (word-of e, image-of e)
 
 -- the lent bytes are the image of the state that was read
-read-state-requires : tie.Need-read-state-requires
-read-state-requires c κs =
+read-on-requires : tie.Need-read-on-requires
+read-on-requires c κs =
     let c2 = c .before .before in let c4 = c2 .before .before in let c7 = c4 .before .before .before in
-    let z = c2 .if1 .left in let g = call c4 .good z in (
-      g .0,
-      sym (ap (λ (x : ReadImage). imageOf (x .state)) (c4 .read-image .ensures)
-          ∙ written-read (c7 .before .args .image .now) (λ i. omega (arith, c7 .slice-known .given i)) (call c4 .accepted z)),
-      g .1,
-    )
+    let z = c2 .if1 .left in let g = call c4 .good z in
+    (g .0, call c4 .image (λ i. omega (arith, c7 .slice-known .given i)) z, g .1)
 
 returns-2 : tie.Need-returns-2
 returns-2 c =
     let c2 = c .before .before in let c5 = c2 .before .before .before in let c7 = c5 .before .before in
-    let e = call c7 .goes-on (c5 .if1 .left) in let w = c2 .read-state .ensures in
+    let e = call c7 .goes-on (c5 .if1 .left) in let w = c2 .read-on .ensures in
     (w .0 ∙ word-of e, w .1 ∙ image-of e)
 
 pub namco163-read-spec : {M : Type 1} → statement M
@@ -52,6 +45,6 @@ namco163-read-spec =
     (λ c. search needs)  -- cast-result
     (λ c. search needs)  -- same-length
     returns
-    read-state-requires
+    read-on-requires
     (λ c. search needs)  -- same-length-2
     returns-2)

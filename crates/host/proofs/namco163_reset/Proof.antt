@@ -25,14 +25,14 @@ returns c =
     let c1 = c .before in let c3 = c1 .before .before in
     let e = call c3 .refused (c1 .if1 .taken) in (word-of e, image-of e)
 
-reset-state-requires : tie.Need-reset-state-requires
-reset-state-requires c κs =
+reset-on-requires : tie.Need-reset-on-requires
+reset-on-requires c κs =
     let c2 = c .before .before in let c4 = c2 .before .before in call c4 .good (c2 .if1 .left) .0
 
 returns-2 : tie.Need-returns-2
 returns-2 c =
     let c2 = c .before .before in let c5 = c2 .before .before .before in let c7 = c5 .before .before in
-    let e = call c7 .goes-on (c5 .if1 .left) in let w = c2 .reset-state .ensures in
+    let e = call c7 .goes-on (c5 .if1 .left) in let w = c2 .reset-on .ensures in
     (w .0 ∙ word-of e, w .1 ∙ image-of e)
 
 pub namco163-reset-spec : {M : Type 1} → statement M
@@ -43,6 +43,6 @@ namco163-reset-spec =
     (λ c. search needs)  -- cast-result
     (λ c. search needs)  -- same-length
     returns
-    reset-state-requires
+    reset-on-requires
     (λ c. search needs)  -- same-length-2
     returns-2)

@@ -23,15 +23,15 @@ returns c =
     let c1 = c .before in let c3 = c1 .before .before in
     let e = call c3 .refused (c1 .if1 .taken) in (word-of e, (image-of e, lent-of e))
 
-write-state-requires : tie.Need-write-state-requires
-write-state-requires c κs =
+write-on-requires : tie.Need-write-on-requires
+write-on-requires c κs =
     let c3 = c .before .before .before in let c5 = c3 .before .before in call c5 .good (c3 .if1 .left)
 
 returns-2 : tie.Need-returns-2
 returns-2 c =
     let c4 = c .before .before .before .before in let c8 = c4 .before .before .before .before in
     let c10 = c8 .before .before in
-    let e = call c10 .goes-on (c8 .if1 .left) in let w = c4 .write-state .ensures in
+    let e = call c10 .goes-on (c8 .if1 .left) in let w = c4 .write-on .ensures in
     (w .0 ∙ word-of e, (w .1 .0 ∙ image-of e, w .1 .1 ∙ lent-of e))
 
 pub namco163-write-spec : {M : Type 1} → statement M
@@ -42,7 +42,7 @@ namco163-write-spec =
     (λ c. search needs)  -- cast-result
     (λ c. search needs)  -- same-length
     returns
-    write-state-requires
+    write-on-requires
     (λ c. search needs)  -- same-length-2
     (λ c. search needs)  -- same-length-3
     returns-2)

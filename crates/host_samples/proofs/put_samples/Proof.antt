@@ -4,12 +4,12 @@ use mathlib.Core.Path.{_≡_, ap, _∙_}
 use mathlib.Core.List.{_++_}
 use lib.ListN.{length, take, drop}
 use Rattle.bits.specs.Fields.{each}
-use Rattle.host_state.specs.HostState.{sampleBytes}
-use Rattle.host_state.proofs.samples.Laws.{put-none, put-length, put-more}
+use Rattle.host_samples.specs.Samples.{sampleBytes}
+use Rattle.host_samples.proofs.Laws.{put-none, put-length, put-more}
 use native.Mathlib.Omega.{arith}
 use borrow.Author.Needs.{needs}
-use Rattle.host_state.proofs.samples.put_samples.Statement.{statement}
-use Rattle.host_state.proofs.samples.put_samples.Tie as tie
+use Rattle.host_samples.proofs.put_samples.Statement.{statement}
+use Rattle.host_samples.proofs.put_samples.Tie as tie
 
 abbrev Inv-loop : tie.InvT-loop
 Inv-loop samples k bytes₀ j₀ bytes j = (j ≤ k) × (bytes ≡ each sampleBytes (take j samples) ++ drop (4 * j) bytes₀)
