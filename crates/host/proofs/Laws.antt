@@ -43,7 +43,7 @@ module _ (img : List ℕ) (own : List Check) (lent : List ℕ) (g : Gives) where
   stopped h =
       let refusal : ReadImage → ℕ = λ r. r .refusal in
       let n : readImage img .refusal ≡ firstOf (readChecks img) = number-is (readChecks img) refusedRead _ refusal refl (λ q. refl) in
-      called (onImage img own) img lent g _ (n ∙ sym (first-done (readChecks img) own (λ e. h (n ∙ e)))) .refused h
+      called (onImage img own) img lent g g _ (n ∙ sym (first-done (readChecks img) own (λ e. h (n ∙ e)))) refl .refused h
 
   -- an image that is accepted: the call goes on with its state
   onward : readImage img .refusal ≡ 0
@@ -53,18 +53,20 @@ module _ (img : List ℕ) (own : List Check) (lent : List ℕ) (g : Gives) where
       let h = accepted-in-range img e in
       rw (eq-eqb (length img) imageBytes (h .0), h .1, known-passes (stateIn img) (known-in img e))
 
--- a call that reads an image to r: `whole` is what it gives, `on` what it gives on a state
-pub record OnImage (img lent : List ℕ) (whole : Gives) (on : State → Gives) (r : ReadImage) : Type 0 where
+-- a call that reads an image to r, with its own checks and what it gives on a state
+pub record OnImage (img lent : List ℕ) (own : State → List Check) (g : State → Gives) (r : ReadImage) : Type 0 where
   -- what the reading says of an accepted image
   pub good : r .refusal ≡ 0 → (length img ≡ imageBytes) × Known (r .state)
   pub image : Bytes img → r .refusal ≡ 0 → img ≡ imageOf (r .state)
   -- the image refuses, or the call goes on with its state
-  pub refused : (r .refusal ≡ 0 → ⊥) → unaltered img lent (r .refusal) ≡ whole
-  pub goes-on : r .refusal ≡ 0 → on (r .state) ≡ whole
+  pub refused : (r .refusal ≡ 0 → ⊥)
+      → unaltered img lent (r .refusal) ≡ unlessRefused (onImage img (own (stateIn img))) (unaltered img lent) (g (stateIn img))
+  pub goes-on : r .refusal ≡ 0 → let s = r .state in
+      unlessRefused (stateCheck s ∷ own s) (unaltered img lent) (g s)
+      ≡ unlessRefused (onImage img (own (stateIn img))) (unaltered img lent) (g (stateIn img))
 
 pub on-image : (img lent : List ℕ) (own : State → List Check) (g : State → Gives) (r : ReadImage) → r ≡ readImage img
-    → OnImage img lent (unlessRefused (onImage img (own (stateIn img))) (unaltered img lent) (g (stateIn img)))
-    (λ s. unlessRefused (stateCheck s ∷ own s) (unaltered img lent) (g s)) r
+    → OnImage img lent own g r
 on-image img lent own g r is =
     let q = ap (λ (x : ReadImage). x .refusal) is in
     let s = ap (λ (x : ReadImage). x .state) is in

@@ -1,5 +1,5 @@
 -- `namco163_load` meets its contract: refused by the image, refused by the load, and accepted.
-use mathlib.Core.Path.{_≡_, sym, ap, subst, _∙_}
+use mathlib.Core.Path.{_≡_, refl, sym, ap, subst, _∙_}
 use mathlib.Core.List.{_∷_}
 use lib.ListN.{length}
 use borrow.Author.Needs.{needs}
@@ -14,13 +14,14 @@ use Rattle.thm_machine.specs.Start.{Loaded as Start}
 use Rattle.thm_machine.proofs.Start.{load-starts}
 use Rattle.thm_range.proofs.Refused.{load-refused}
 use Rattle.thm_range.proofs.Calls.{load-fits}
+use Rattle.host_state.specs.HostState.{Gives}
 use Rattle.host.specs.Host.{yes, sizesOf, loadGives, hostLoad}
 use Rattle.host_state.proofs.Laws.{Called, called, word-of, image-of, lent-of}
 use Rattle.host.proofs.Laws.{load-number, not-long, long}
 use Rattle.host.proofs.namco163_load.Statement.{statement}
 use Rattle.host.proofs.namco163_load.Tie as tie
 
--- from the load the start, from its accepted answer the load; and the sizes that the start was given
+-- from the load the start, from its accepted answer the load; the sizes that the start was given, and what the load gives
 abbrev start : tie.After-load → tie.Start
 start c = c .before .before .before .before .before
 
@@ -30,12 +31,15 @@ load c = c .before .before .before .before
 abbrev sizes : tie.Start → MemoryLayout
 sizes t = let a = t .args in sizesOf (a .prg-rom) (a .prg-ram) (a .battery) (a .chr) (a .chr-ram) (a .ciram)
 
+abbrev given : tie.Start → Gives
+given t = let a = t .args in loadGives (a .arena .now) (a .mapper) (a .submapper) (a .flags) (a .in-database) (sizes t)
+
 returns : tie.Need-returns
 unfolding hostLoad
 returns c =
     let t = c .before .before .before in let a = t .args in
-    let e = not-long (a .image .now) (loadChecks (a .mapper) (sizes t) (length (a .arena .now))) (a .arena .now)
-    (loadGives (a .arena .now) (a .mapper) (a .submapper) (a .flags) (a .in-database) (sizes t)) (c .if1 .taken) in
+    let e = not-long (a .image .now) (loadChecks (a .mapper) (sizes t) (length (a .arena .now))) (a .arena .now) (given t)
+    (c .if1 .taken) in
     (word-of e, (image-of e, lent-of e))
 
 -- the load's number
@@ -48,13 +52,15 @@ number c =
 
 call : (c : tie.After-load) → let t = start c in let a = t .args in
     Called (imageCheck (length (a .image .now)) ∷ loadChecks (a .mapper) (sizes t) (length (a .arena .now))) (a .image .now) (a .arena .now)
-    (loadGives (a .arena .now) (a .mapper) (a .submapper) (a .flags) (a .in-database) (sizes t)) (c .load .result .refusal)
-call c = called _ _ _ _ _ (number c ∙ long (start c .args .image .now) _ (c .before .before .if1 .left))
+    (given t) (given t) (c .load .result .refusal)
+call c = called _ _ _ _ _ _ (number c ∙ long (start c .args .image .now) _ (c .before .before .if1 .left)) refl
 
 returns-2 : tie.Need-returns-2
 unfolding hostLoad
 returns-2 c =
-    let refused = c .before in let l = refused .before .before .before .before in let a = start l .args in
+    let refused = c .before in
+    let l = refused .before .before .before .before in
+    let a = start l .args in
     let h = refused .if2 .taken in
     let e = call l .refused h in
     let kept = load-refused (a .mapper) (a .submapper) (a .flags) (yes (a .in-database)) _ (a .arena .now) (λ z. h (number l ∙ z)) .1 in

@@ -1,15 +1,9 @@
 -- `reset_on` meets its contract: refused, and accepted.
-use mathlib.Core.Path.{sym, ap, subst, _∙_}
-use mathlib.Core.List.{[]}
+use mathlib.Core.Path.{_∙_}
 use borrow.Author.Needs.{needs}
-use Rattle.board_state.specs.State.{Known}
 use Rattle.board_state.proofs.Range.{known}
-use Rattle.call_answers.specs.declared.Altered.{Altered}
-use Rattle.call_refusals.specs.Refusals.{resetChecks}
 use Rattle.call_refusals.proofs.Laws.{reset-good}
-use Rattle.image_write.specs.Image.{imageOf}
-use Rattle.host_state.specs.HostState.{resetGives}
-use Rattle.host_state.proofs.Laws.{Called, reset-called, word-of, image-of, known-reset}
+use Rattle.host_state.proofs.Laws.{ResetCalled, reset-called, word-of, image-of, known-reset}
 use Rattle.host_state.proofs.reset_on.Statement.{statement}
 use Rattle.host_state.proofs.reset_on.Tie as tie
 
@@ -17,8 +11,7 @@ use Rattle.host_state.proofs.reset_on.Tie as tie
 abbrev start : tie.After-reset → tie.Start
 start c = c .before .before
 
-call : (c : tie.After-reset) → let a = start c .args in
-    Called (resetChecks (a .s) (a .kind)) (a .image .now) [] (resetGives (a .s) (a .kind)) (c .reset .result .refusal)
+call : (c : tie.After-reset) → let a = start c .args in ResetCalled (a .s) (a .image .now) (a .kind) (c .reset .result)
 call c = let a = start c .args in reset-called (a .s) (a .image .now) (a .kind) _ (c .reset .ensures)
 
 returns : tie.Need-returns
@@ -30,13 +23,12 @@ put-state-requires : tie.Need-put-state-requires
 put-state-requires c κs =
     let accepted = c .before .before in let r = accepted .before .before in let t = start r in let a = t .args in
     let k = known (a .s) _ (t .good .0) (reset-good (a .s) (a .kind) (call r .none (accepted .if1 .left))) in
-    (t .pre, subst (λ (x : Altered). Known (x .state)) (sym (r .reset .ensures)) (known-reset (a .s) (a .kind) k))
+    (t .pre, known-reset (a .s) (a .kind) _ (r .reset .ensures) k)
 
 returns-2 : tie.Need-returns-2
 returns-2 c =
-    let put = c .before .before in let accepted = put .before .before .before in let r = accepted .before .before in
-    let e = call r .accepted (accepted .if1 .left) in
-    (word-of e, put .put-state .ensures ∙ ap (λ (x : Altered). imageOf (x .state)) (r .reset .ensures) ∙ image-of e)
+    let put = c .before .before in let accepted = put .before .before .before in
+    let e = call (accepted .before .before) .accepted (accepted .if1 .left) in (word-of e, put .put-state .ensures ∙ image-of e)
 
 pub reset-on-spec : {M : Type 1} → statement M
 reset-on-spec =

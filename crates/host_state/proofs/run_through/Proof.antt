@@ -1,6 +1,6 @@
 -- `run_through` meets its contract: refused, and accepted.
 use Prim.Native.Nat.{ℕ, _+_, _*_, _<_}
-use mathlib.Core.Path.{sym, ap, subst, _∙_}
+use mathlib.Core.Path.{refl, sym, ap, subst, _∙_}
 use mathlib.Core.List.{List, _∷_, _++_}
 use native.Mathlib.Omega.{arith}
 use lib.Ieee.{Float, nan}
@@ -36,16 +36,17 @@ samples c = c .before .before .before .before .before
 
 call : (c : tie.After-run-into) → let a = start c .args in let bytes = a .samples .now in
     Called (stateCheck (a .s) ∷ runOwn (a .s) bytes (a .n)) (a .image .now) bytes (runGives (a .s) bytes (a .n))
-    (c .run-into .result .refusal)
+    (runGives (a .s) bytes (a .n)) (c .run-into .result .refusal)
 call c =
     let a = start c .args in
-    called (stateCheck (a .s) ∷ runOwn (a .s) (a .samples .now) (a .n)) _ _ _ _
-    (ap (λ (x : Ran). x .refusal) (c .run-into .ensures .0) ∙ run-number _ _ _ _)
+    called (stateCheck (a .s) ∷ runOwn (a .s) (a .samples .now) (a .n)) _ _ _ _ _
+    (ap (λ (x : Ran). x .refusal) (c .run-into .ensures .0) ∙ run-number _ _ _ _) refl
 
 returns : tie.Need-returns
 returns c =
     let refused = c .before in
-    let e = call (refused .before .before .before .before) .refused (refused .if1 .taken) in (word-of e, (image-of e, lent-of e))
+    let ran = refused .before .before .before .before in
+    let e = call ran .refused (refused .if1 .taken) in (word-of e, (image-of e, lent-of e))
 
 -- what the accepted run leaves in the buffer
 end : (c : tie.Else1) → let a = start (run c) .args in
@@ -66,7 +67,8 @@ put-samples-requires c κs =
 
 put-state-requires : tie.Need-put-state-requires
 put-state-requires c κs =
-    let done = accepted (c .before .before .before .before) in let t = start (run done) in
+    let lent = c .before .before .before .before in
+    let done = accepted lent in let t = start (run done) in
     (t .pre .0, subst (λ (x : Ran). Known (x .state)) (sym (end done .is)) (clocks-known (t .args .n) (t .args .s) (t .pre .1)))
 
 mul-result : tie.Need-mul-result
