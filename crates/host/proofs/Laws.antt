@@ -1,5 +1,5 @@
 -- Refused by the image, or on to the call on its state.
-use Prim.Native.Nat.{ℕ}
+use Prim.Native.Nat.{ℕ, _^_, _<_}
 use mathlib.Core.Path.{_≡_, refl, sym, ap, subst, _∙_}
 use mathlib.Core.Bool.{Bool}
 use mathlib.Core.List.{List, _∷_}
@@ -14,13 +14,17 @@ use Rattle.board_state.proofs.Range.{known-passes}
 use Rattle.call_refusals.specs.Refusals.{Check, firstOf, unlessRefused, stateCheck, loadChecks}
 use Rattle.call_refusals.proofs.Laws.{first-done, number-is}
 use Rattle.call_load.specs.declared.Loaded.{Loaded}
-use Rattle.call_load.specs.Cartridge.{loadAnswer}
+use Rattle.call_load.specs.Cartridge.{freshState, loadAnswer}
 use Rattle.image_write.specs.Image.{imageBytes, imageOf}
 use Rattle.image_write.specs.Writing.{imageCheck}
 use Rattle.image_read.specs.declared.reading.ReadImage.{ReadImage}
 use Rattle.image_read.specs.Reading.{readChecks, refusedRead, readImage}
 use Rattle.image_read.proofs.RoundTrip.{accepted-in-range, read-known, written-read}
 use Rattle.image_read.proofs.Accepted.{accepted}
+use Rattle.thm_machine.specs.Calls.{Held}
+use Rattle.thm_machine.specs.Start.{Loaded as Start}
+use Rattle.thm_machine.proofs.Start.{load-starts}
+use Rattle.thm_range.proofs.Calls.{load-fits}
 use Rattle.host_state.specs.HostState.{Gives, unaltered}
 use Rattle.host_state.proofs.Laws.{called}
 use Rattle.host.specs.Host.{onImage, stateIn}
@@ -89,8 +93,32 @@ pub long : (img : List ℕ) (cs : List Check) → length img ≡ imageBytes → 
 unfolding firstOf
 long img cs l = rw (eq-eqb (length img) imageBytes l)
 
-pub load-number : (mapper sub flags : ℕ) (known : Bool) (sizes : MemoryLayout) (len : ℕ)
-    → loadAnswer mapper sub flags known sizes len .refusal ≡ firstOf (loadChecks mapper sizes len)
-unfolding loadAnswer
-load-number mapper sub flags known sizes len =
-    number-is (loadChecks mapper sizes len) (λ q. record { refusal = q; state = noState }) _ (λ (r : Loaded). r .refusal) refl (λ q. refl)
+-- ---- a load by its answer r
+
+module _ (mapper sub flags : ℕ) (known : Bool) (sizes : MemoryLayout) (arena : List ℕ) (r : Loaded)
+    (e : r ≡ loadAnswer mapper sub flags known sizes (length arena)) where
+  pub load-number : r .refusal ≡ firstOf (loadChecks mapper sizes (length arena))
+  unfolding loadAnswer
+  load-number =
+      let refusal : Loaded → ℕ = λ x. x .refusal in
+      ap refusal e
+      ∙ number-is (loadChecks mapper sizes (length arena)) (λ q. record { refusal = q; state = noState }) _ refusal refl (λ q. refl)
+
+  -- accepted, as a list of calls starts with it
+  abbrev begun : r .refusal ≡ 0 → Start
+  begun z =
+      record {
+        mapper = mapper;
+        submapper = sub;
+        flags = flags;
+        known = known;
+        sizes = sizes;
+        arena = arena;
+        accepted = sym load-number ∙ z;
+      }
+
+  pub load-known : sub < 2 ^ 8 → r .refusal ≡ 0 → Known (r .state)
+  load-known b z = subst (λ (x : Loaded). Known (x .state)) (sym e) (load-fits (begun z) b .known)
+
+  pub load-fresh : r .refusal ≡ 0 → r .state ≡ freshState mapper sub flags known sizes
+  load-fresh z = ap (λ (x : Loaded). x .state) e ∙ ap (λ (h : Held). h .state) (load-starts (begun z))

@@ -1,23 +1,17 @@
 -- `namco163_load` meets its contract: refused by the image, refused by the load, and accepted.
-use mathlib.Core.Path.{_≡_, refl, sym, ap, subst, _∙_}
+use mathlib.Core.Path.{_≡_, refl, ap, _∙_}
 use mathlib.Core.List.{_∷_}
 use lib.ListN.{length}
 use borrow.Author.Needs.{needs}
 use Rattle.memory.specs.declared.layout.MemoryLayout.{MemoryLayout}
-use Rattle.board_state.specs.State.{Known}
-use Rattle.call_load.specs.declared.Loaded.{Loaded}
 use Rattle.call_refusals.specs.Refusals.{firstOf, loadChecks}
 use Rattle.image_write.specs.Image.{imageOf}
 use Rattle.image_write.specs.Writing.{imageCheck}
-use Rattle.thm_machine.specs.Calls.{Held}
-use Rattle.thm_machine.specs.Start.{Loaded as Start}
-use Rattle.thm_machine.proofs.Start.{load-starts}
 use Rattle.thm_range.proofs.Refused.{load-refused}
-use Rattle.thm_range.proofs.Calls.{load-fits}
 use Rattle.host_state.specs.HostState.{Gives}
 use Rattle.host.specs.Host.{yes, sizesOf, loadGives, hostLoad}
 use Rattle.host_state.proofs.Laws.{Called, called, word-of, image-of, lent-of}
-use Rattle.host.proofs.Laws.{load-number, not-long, long}
+use Rattle.host.proofs.Laws.{not-long, long, load-number, load-known, load-fresh}
 use Rattle.host.proofs.namco163_load.Statement.{statement}
 use Rattle.host.proofs.namco163_load.Tie as tie
 
@@ -47,8 +41,7 @@ number : (c : tie.After-load) → let t = start c in
     c .load .result .refusal ≡ firstOf (loadChecks (t .args .mapper) (sizes t) (length (t .args .arena .now)))
 number c =
     let t = start c in let a = t .args in
-    ap (λ (x : Loaded). x .refusal) (c .load .ensures .0)
-    ∙ load-number (a .mapper) (a .submapper) (a .flags) (yes (a .in-database)) (sizes t) (length (a .arena .now))
+    load-number (a .mapper) (a .submapper) (a .flags) (yes (a .in-database)) (sizes t) (a .arena .now) _ (c .load .ensures .0)
 
 call : (c : tie.After-load) → let t = start c in let a = t .args in
     Called (imageCheck (length (a .image .now)) ∷ loadChecks (a .mapper) (sizes t) (length (a .arena .now))) (a .image .now) (a .arena .now)
@@ -66,35 +59,21 @@ returns-2 c =
     let kept = load-refused (a .mapper) (a .submapper) (a .flags) (yes (a .in-database)) _ (a .arena .now) (λ z. h (number l ∙ z)) .1 in
     (word-of e, (image-of e, l .load .ensures .1 ∙ kept ∙ lent-of e))
 
--- the accepted load, as a list of calls starts with it
-begun : tie.Else2 → Start
-begun c =
-    let t = start (load c) in let a = t .args in
-    record {
-      mapper = a .mapper;
-      submapper = a .submapper;
-      flags = a .flags;
-      known = yes (a .in-database);
-      sizes = sizes t;
-      arena = a .arena .now;
-      accepted = sym (number (load c)) ∙ c .if2 .left;
-    }
-
 put-state-requires : tie.Need-put-state-requires
-unfolding begun
 put-state-requires c κs =
-    let done = c .before .before in let l = load done in (
+    let done = c .before .before in let l = load done in let t = start l in let a = t .args in (
       l .before .before .if1 .left,
-      subst (λ (x : Loaded). Known (x .state)) (sym (l .load .ensures .0)) (load-fits (begun done) (search needs) .known),
+      load-known (a .mapper) (a .submapper) (a .flags) (yes (a .in-database)) (sizes t) (a .arena .now) _ (l .load .ensures .0) (search needs)
+          (done .if2 .left),
     )
 
 returns-3 : tie.Need-returns-3
-unfolding hostLoad begun
+unfolding hostLoad
 returns-3 c =
-    let put = c .before .before in let done = put .before .before .before in let l = load done in
-    let r = l .load .ensures in
-    let e = call l .accepted (done .if2 .left) in
-    let fresh = ap (λ (x : Loaded). x .state) (r .0) ∙ ap (λ (h : Held). h .state) (load-starts (begun done)) in
+    let put = c .before .before in let done = put .before .before .before in let l = load done in let t = start l in let a = t .args in
+    let r = l .load .ensures in let z = done .if2 .left in
+    let e = call l .accepted z in
+    let fresh = load-fresh (a .mapper) (a .submapper) (a .flags) (yes (a .in-database)) (sizes t) (a .arena .now) _ (r .0) z in
     (word-of e, (put .put-state .ensures ∙ ap imageOf fresh ∙ image-of e, r .1 ∙ lent-of e))
 
 pub namco163-load-spec : {M : Type 1} → statement M
