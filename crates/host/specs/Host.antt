@@ -1,5 +1,5 @@
--- 01 "Host and image": "Load, read, write, run and reset are exported to the C host on numbers and byte slices": what each call answers and leaves on an
--- image, refused calls too. What it does on the image's state is host_state's.
+-- 01 "Host and image": "Load, read, write, run and reset are exported to the C host on numbers and byte slices": what each call answers and
+-- leaves on an image, refused calls too. What it does on the image's state is host_state's.
 use Prim.Native.Nat.{ℕ}
 use mathlib.Core.Bool.{Bool, not}
 use mathlib.Core.List.{List, [], _∷_}
@@ -8,12 +8,12 @@ use lib.ListN.{length}
 use Rattle.memory.specs.declared.layout.MemoryLayout.{MemoryLayout}
 use Rattle.memory.specs.Layout.{arenaLen}
 use Rattle.board_state.specs.declared.State.{State}
-use Rattle.call_refusals.specs.Refusals.{Check, kindCheck, arenaCheck, addressCheck, loadChecks}
+use Rattle.call_refusals.specs.Refusals.{Check, unlessRefused, kindCheck, arenaCheck, addressCheck, loadChecks}
 use Rattle.call_load.specs.Cartridge.{freshState, loadArena}
 use Rattle.image_write.specs.Image.{imageOf}
 use Rattle.image_write.specs.Writing.{imageCheck}
 use Rattle.image_read.specs.Reading.{stateOf, fieldsOf, fieldsCheck}
-use Rattle.host_state.specs.HostState.{Gives, unlessRefused, resetGives, readGives, writeGives, runOwn, runGives}
+use Rattle.host_state.specs.HostState.{Gives, unaltered, resetGives, readGives, writeGives, runOwn, runGives}
 
 -- a call on an image is refused by 1, then by 2, then by its own checks
 abbrev pub onImage : List ℕ → List Check → List Check
@@ -42,22 +42,26 @@ loadGives arena mapper sub flags known sizes =
 -- refused by 1, then by a load's own checks
 unfoldable pub hostLoad : List ℕ → List ℕ → ℕ → ℕ → ℕ → ℕ → MemoryLayout → Gives
 hostLoad img arena mapper sub flags known sizes =
-    unlessRefused (imageCheck (length img) ∷ loadChecks mapper sizes (length arena)) img arena (loadGives arena mapper sub flags known sizes)
+    unlessRefused (imageCheck (length img) ∷ loadChecks mapper sizes (length arena)) (unaltered img arena)
+    (loadGives arena mapper sub flags known sizes)
 
 -- ---- the calls that read an image
 
 unfoldable pub hostReset : List ℕ → ℕ → Gives
-hostReset img kind = unlessRefused (onImage img (kindCheck kind ∷ [])) img [] (resetGives (stateIn img) kind)
+hostReset img kind = unlessRefused (onImage img (kindCheck kind ∷ [])) (unaltered img []) (resetGives (stateIn img) kind)
 
 -- 7 and 8
 abbrev pub cpuOwn : State → List ℕ → ℕ → List Check
 cpuOwn s arena addr = arenaCheck (arenaLen (s .memory .layout)) (length arena) ∷ addressCheck addr ∷ []
 
 unfoldable pub hostRead : List ℕ → List ℕ → ℕ → Gives
-hostRead img arena addr = let s = stateIn img in unlessRefused (onImage img (cpuOwn s arena addr)) img arena (readGives s arena addr)
+hostRead img arena addr =
+    let s = stateIn img in unlessRefused (onImage img (cpuOwn s arena addr)) (unaltered img arena) (readGives s arena addr)
 
 unfoldable pub hostWrite : List ℕ → List ℕ → ℕ → ℕ → Gives
-hostWrite img arena addr v = let s = stateIn img in unlessRefused (onImage img (cpuOwn s arena addr)) img arena (writeGives s arena addr v)
+hostWrite img arena addr v =
+    let s = stateIn img in unlessRefused (onImage img (cpuOwn s arena addr)) (unaltered img arena) (writeGives s arena addr v)
 
 unfoldable pub hostRun : List ℕ → List ℕ → ℕ → Gives
-hostRun img samples n = let s = stateIn img in unlessRefused (onImage img (runOwn s samples n)) img samples (runGives s samples n)
+hostRun img samples n =
+    let s = stateIn img in unlessRefused (onImage img (runOwn s samples n)) (unaltered img samples) (runGives s samples n)

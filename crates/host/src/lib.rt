@@ -1,11 +1,13 @@
-// The five calls of the C host. An image is 307 bytes; each call answers 64 bits, with its refusal number in the low 8, 0 for accepted.
+// The five calls of the C host. An image is IMAGE_BYTES bytes; each call answers 64 bits, with its refusal number in the low 8, 0 for
+// accepted.
 use call_load::load;
-use host_state::read_state;
-use host_state::reset_state;
-use host_state::run_state;
-use host_state::write_state;
+use host_state::read_on;
+use host_state::reset_on;
+use host_state::run_on;
+use host_state::write_on;
 use image_read::reading::read_image;
-use image_write::writing::write_image;
+use image_write::sections::IMAGE_BYTES;
+use image_write::writing::put_state;
 use memory::layout::MemoryLayout;
 ghost use mathlib.Core.Path.{_≡_};
 ghost use Rattle.host.specs.Host.{sizesOf, hostLoad, hostReset, hostRead, hostWrite, hostRun};
@@ -30,7 +32,7 @@ pub extern "C" fn namco163_load(
     ensures { λ r. ⌜ now (image .exit) ≡ hostLoad (now (image .entry)) (now (arena .entry)) mapper submapper flags «in_database» (sizesOf «prg_rom» «prg_ram» battery chr «chr_ram» ciram) .image ⌝ }
     ensures { λ r. ⌜ now (arena .exit) ≡ hostLoad (now (image .entry)) (now (arena .entry)) mapper submapper flags «in_database» (sizesOf «prg_rom» «prg_ram» battery chr «chr_ram» ciram) .lent ⌝ }
 {
-    if image.len() != 307 {
+    if image.len() != IMAGE_BYTES {
         return 1;
     }
     let sizes = MemoryLayout {
@@ -46,7 +48,7 @@ pub extern "C" fn namco163_load(
         return loaded.refusal as u64;
     }
     let fresh = loaded.state;
-    write_image(fresh, image);
+    put_state(image, fresh);
     0
 }
 
@@ -61,7 +63,7 @@ pub extern "C" fn namco163_reset(image: &mut [u8], kind: u64) -> u64
         return read.refusal as u64;
     }
     let s = read.state;
-    reset_state(s, kind, image)
+    reset_on(s, kind, image)
 }
 
 // The byte at a CPU address, from bit 8.
@@ -75,7 +77,7 @@ pub extern "C" fn namco163_read(image: &mut [u8], arena: &[u8], addr: u16) -> u6
         return read.refusal as u64;
     }
     let s = read.state;
-    read_state(s, arena, addr, image)
+    read_on(s, arena, addr, image)
 }
 
 // The changed page entries: CHR from bit 8, PRG at their own bits 24..63.
@@ -90,7 +92,7 @@ pub extern "C" fn namco163_write(image: &mut [u8], arena: &mut [u8], addr: u16, 
         return read.refusal as u64;
     }
     let s = read.state;
-    write_state(s, arena, addr, val, image)
+    write_on(s, arena, addr, val, image)
 }
 
 // Runs so many clocks: samples made from bit 8, the clock of the rise from bit 32.
@@ -105,5 +107,5 @@ pub extern "C" fn namco163_run(image: &mut [u8], samples: &mut [u8], clocks: u64
         return read.refusal as u64;
     }
     let s = read.state;
-    run_state(s, clocks, samples, image)
+    run_on(s, clocks, samples, image)
 }

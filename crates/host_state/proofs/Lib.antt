@@ -1,2 +1,2 @@
--- Laws and samples/Laws are what the proofs of src/ rest on.
+-- Laws are what the proofs of src/lib.rt rest on.
 pub mod Laws

@@ -1,18 +1,17 @@
--- 01 "Host and image": what each call of the host answers and leaves on a state, once its image is read: `..Gives` where it is accepted, `..On` refused or not.
-use Prim.Native.Nat.{ℕ, _+_, _*_, _/_, _^_, _≤_}
+-- 01 "Host and image": what each call of the host answers and leaves on a state, once its image is read: `..Gives` where it is accepted,
+-- `..On` refused or not.
+use Prim.Native.Nat.{ℕ, _+_, _*_, _/_, _^_}
 use mathlib.Core.List.{List, [], _∷_, _++_}
-use lib.Ieee.{Float, binary32, toBits}
 use lib.ListN.{length, drop}
 use Rattle.bits.specs.Fields.{each}
-use Rattle.bits.specs.Words.{bytesOf}
 use Rattle.board_state.specs.declared.State.{State}
-use Rattle.call_refusals.specs.Refusals.{Check, firstOf, resetChecks, cpuChecks, stateCheck, ifAccepted}
+use Rattle.call_refusals.specs.Refusals.{Check, unlessRefused, resetChecks, cpuChecks, stateCheck}
 use Rattle.call_cpu.specs.Calls.{cpuRead, cpuWrite, cpuWriteArena}
 use Rattle.call_reset.specs.Reset.{resetState}
 use Rattle.image_write.specs.Image.{imageOf}
-use Rattle.cut.specs.Calls.{RunGave}
-use Rattle.cut.specs.Contract.{lastOr, runBy}
-use Rattle.call_run.specs.Run.{clocks, made, runLimit, lengthCheck, roomCheck, runChecks}
+use Rattle.cut.specs.Contract.{lastOr}
+use Rattle.call_run.specs.Run.{clocks, lengthCheck, roomCheck}
+use Rattle.host_samples.specs.Samples.{sampleBytes}
 
 -- The 64 bits that a call returns, the image afterwards, and the other bytes that it was lent: the arena or the sample bytes.
 pub record Gives : Type 0 where
@@ -21,8 +20,8 @@ pub record Gives : Type 0 where
   pub lent : List ℕ
 
 -- "refusal in 0..7, 0 for accepted; a refused call has all other bits 0", and it leaves what was lent unaltered
-abbrev pub unlessRefused : List Check → List ℕ → List ℕ → Gives → Gives
-unlessRefused checks img lent accepted = let q = firstOf checks in ifAccepted q accepted (record { word = q; image = img; lent = lent })
+abbrev pub unaltered : List ℕ → List ℕ → ℕ → Gives
+unaltered img lent q = record { word = q; image = img; lent = lent }
 
 -- ---- reset
 
@@ -30,7 +29,7 @@ abbrev pub resetGives : State → ℕ → Gives
 resetGives s kind = record { word = 0; image = imageOf (resetState s kind .state); lent = [] }
 
 abbrev pub resetOn : State → List ℕ → ℕ → Gives
-resetOn s img kind = unlessRefused (resetChecks s kind) img [] (resetGives s kind)
+resetOn s img kind = unlessRefused (resetChecks s kind) (unaltered img []) (resetGives s kind)
 
 -- ---- CPU read and write
 
@@ -39,7 +38,7 @@ abbrev pub readGives : State → List ℕ → ℕ → Gives
 readGives s arena addr = let r = cpuRead s arena addr in record { word = r .byte * 2 ^ 8; image = imageOf (r .state); lent = arena }
 
 abbrev pub readOn : State → List ℕ → List ℕ → ℕ → Gives
-readOn s img arena addr = unlessRefused (cpuChecks s (length arena) addr) img arena (readGives s arena addr)
+readOn s img arena addr = unlessRefused (cpuChecks s (length arena) addr) (unaltered img arena) (readGives s arena addr)
 
 -- "a write's CHR mask from bit 8 and PRG mask at its own bits 24..63"
 abbrev pub writeGives : State → List ℕ → ℕ → ℕ → Gives
@@ -48,25 +47,13 @@ writeGives s arena addr v =
     record { word = w .changed .chr .mask * 2 ^ 8 + w .changed .prg .mask; image = imageOf (w .state); lent = cpuWriteArena s arena addr v }
 
 abbrev pub writeOn : State → List ℕ → List ℕ → ℕ → ℕ → Gives
-writeOn s img arena addr v = unlessRefused (cpuChecks s (length arena) addr) img arena (writeGives s arena addr v)
+writeOn s img arena addr v = unlessRefused (cpuChecks s (length arena) addr) (unaltered img arena) (writeGives s arena addr v)
 
 -- ---- run
-
--- "Host samples are 4 bytes, most significant first."
-abbrev pub sampleBytes : Float → List ℕ
-sampleBytes x = bytesOf 4 (toBits binary32 x)
 
 -- 10 and 11: "from a host, whole groups of 4 bytes count"
 abbrev pub runOwn : State → List ℕ → ℕ → List Check
 runOwn s samples n = lengthCheck n ∷ roomCheck s n (length samples / 4) ∷ []
-
--- a run with room for so many samples, into a longer buffer
-abbrev pub runIn : State → ℕ → ℕ → List Float → RunGave State Float
-runIn s n room buffer = runBy (firstOf (runChecks s n room)) (clocks n s) buffer s
-
--- a buffer of so many places holds whatever a run makes
-abbrev pub HoldsRun : State → ℕ → ℕ → Type 0
-HoldsRun s n places = n ≤ runLimit → made n s ≤ places
 
 -- n single clocks. "a run's samples from bit 8, rise from bit 32"; the sample bytes behind those of the samples made stay
 abbrev pub runGives : State → List ℕ → ℕ → Gives
@@ -80,4 +67,11 @@ runGives s samples n =
     }
 
 abbrev pub runOn : State → List ℕ → List ℕ → ℕ → Gives
-runOn s img samples n = unlessRefused (stateCheck s ∷ runOwn s samples n) img samples (runGives s samples n)
+runOn s img samples n = unlessRefused (stateCheck s ∷ runOwn s samples n) (unaltered img samples) (runGives s samples n)
+
+-- how long a short run is at most, and as many samples as it can make; `made-few` says that they hold it
+abbrev pub shortRun : ℕ
+shortRun = 1920
+
+abbrev pub shortSamples : ℕ
+shortSamples = 128

@@ -1,26 +1,28 @@
 // The host's calls on a state: the answer's word, and the image of the state after it.
-pub mod samples; // samples.rt: a run's samples as bytes
-
-use crate::samples::FEW;
-use crate::samples::MOST;
-use crate::samples::put_samples;
-use crate::samples::run_into;
 use board_state::State;
-use call_battery::reset;
-use call_cpu::calls::cpu_read_of;
-use call_cpu::calls::cpu_write_of;
+use call_cpu::calls::cpu_read_known;
+use call_cpu::calls::cpu_write_known;
+use call_reset::reset;
+use call_run::run::SAMPLES_MOST;
+use host_samples::put_samples;
+use host_samples::run_into;
 use image_write::writing::put_state;
-use image_write::writing::write_image;
 ghost use mathlib.Core.Path.{_≡_};
-ghost use mathlib.Core.Bool.{true};
 ghost use Prim.Native.Nat.{_≤_};
 ghost use lib.ListN.{length};
-ghost use Rattle.board_state.specs.State.{inRange};
+ghost use Rattle.board_state.specs.State.{Known};
 ghost use Rattle.image_write.specs.Image.{imageBytes, imageOf};
-ghost use Rattle.host_state.specs.HostState.{resetOn, readOn, writeOn, HoldsRun, runOn};
+ghost use Rattle.host_samples.specs.Samples.{HoldsRun};
+ghost use Rattle.host_state.specs.HostState.{resetOn, readOn, writeOn, runOn, shortRun};
+
+// The most clocks of a short run.
+const SHORT_RUN: u64 = 1_920;
+
+// As many samples as a short run can make: an update each 15 clocks makes 128 of 1,920, from any update counter.
+const SHORT_SAMPLES: usize = 128;
 
 // A reset of a state, and its image.
-pub fn reset_state(s: State, kind: u64, image: &mut [u8]) -> u64
+pub fn reset_on(s: State, kind: u64, image: &mut [u8]) -> u64
     requires { ⌜ length (now image) ≡ imageBytes ⌝ }
     ensures { λ r. ⌜ r ≡ resetOn s (now (image .entry)) kind .word ⌝ }
     ensures { λ r. ⌜ now (image .exit) ≡ resetOn s (now (image .entry)) kind .image ⌝ }
@@ -30,17 +32,17 @@ pub fn reset_state(s: State, kind: u64, image: &mut [u8]) -> u64
         return altered.refusal as u64;
     }
     let after = altered.state;
-    write_image(after, image);
+    put_state(image, after);
     0
 }
 
 // A CPU read on the image's state, and the image of the state after it. Only the sound port at 4800..4FFF changes the state.
-pub fn read_state(s: State, arena: &[u8], addr: u16, image: &mut [u8]) -> u64
-    requires { ⌜ (length (now image) ≡ imageBytes) × (now image ≡ imageOf s) × (inRange s ≡ true) ⌝ }
+pub fn read_on(s: State, arena: &[u8], addr: u16, image: &mut [u8]) -> u64
+    requires { ⌜ (length (now image) ≡ imageBytes) × (now image ≡ imageOf s) × Known s ⌝ }
     ensures { λ r. ⌜ r ≡ readOn s (now (image .entry)) (now (arena .entry)) addr .word ⌝ }
     ensures { λ r. ⌜ now (image .exit) ≡ readOn s (now (image .entry)) (now (arena .entry)) addr .image ⌝ }
 {
-    let got = cpu_read_of(true, s, arena, addr);
+    let got = cpu_read_known(s, arena, addr);
     if got.refusal != 0 {
         return got.refusal as u64;
     }
@@ -54,13 +56,13 @@ pub fn read_state(s: State, arena: &[u8], addr: u16, image: &mut [u8]) -> u64
 }
 
 // A CPU write on a state, and the image of the state after it.
-pub fn write_state(s: State, arena: &mut [u8], addr: u16, val: u8, image: &mut [u8]) -> u64
-    requires { ⌜ (length (now image) ≡ imageBytes) × (inRange s ≡ true) ⌝ }
+pub fn write_on(s: State, arena: &mut [u8], addr: u16, val: u8, image: &mut [u8]) -> u64
+    requires { ⌜ (length (now image) ≡ imageBytes) × Known s ⌝ }
     ensures { λ r. ⌜ r ≡ writeOn s (now (image .entry)) (now (arena .entry)) addr val .word ⌝ }
     ensures { λ r. ⌜ now (image .exit) ≡ writeOn s (now (image .entry)) (now (arena .entry)) addr val .image ⌝ }
     ensures { λ r. ⌜ now (arena .exit) ≡ writeOn s (now (image .entry)) (now (arena .entry)) addr val .lent ⌝ }
 {
-    let written = cpu_write_of(true, s, arena, addr, val);
+    let written = cpu_write_known(s, arena, addr, val);
     if written.refusal != 0 {
         return written.refusal as u64;
     }
@@ -71,12 +73,12 @@ pub fn write_state(s: State, arena: &mut [u8], addr: u16, val: u8, image: &mut [
 
 // A run from a state by way of a buffer that holds what it makes, and the image of the state after it.
 fn run_through(s: State, n: u64, samples: &mut [u8], image: &mut [u8], buf: &mut [f32]) -> u64
-    requires { ⌜ (length (now image) ≡ imageBytes) × (inRange s ≡ true) × HoldsRun s n (length (now buf)) ⌝ }
+    requires { ⌜ (length (now image) ≡ imageBytes) × Known s × HoldsRun s n (length (now buf)) ⌝ }
     ensures { λ r. ⌜ r ≡ runOn s (now (image .entry)) (now (samples .entry)) n .word ⌝ }
     ensures { λ r. ⌜ now (image .exit) ≡ runOn s (now (image .entry)) (now (samples .entry)) n .image ⌝ }
     ensures { λ r. ⌜ now (samples .exit) ≡ runOn s (now (image .entry)) (now (samples .entry)) n .lent ⌝ }
 {
-    let ran = run_into(s, n, samples.len() / 4, buf);
+    let ran = run_into(s, n, samples.len(), buf);
     if ran.refusal != 0 {
         return ran.refusal as u64;
     }
@@ -86,34 +88,35 @@ fn run_through(s: State, n: u64, samples: &mut [u8], image: &mut [u8], buf: &mut
     (ran.made as u64) * 256 + (ran.rise as u64) * 4_294_967_296
 }
 
-// Of at most 1,920 clocks: a small buffer, since it is cleared first.
+// A short run has a small buffer, since a buffer is cleared first.
 fn run_short(s: State, n: u64, samples: &mut [u8], image: &mut [u8]) -> u64
-    requires { ⌜ (length (now image) ≡ imageBytes) × (inRange s ≡ true) × (n ≤ 1920) ⌝ }
+    requires { ⌜ (length (now image) ≡ imageBytes) × Known s × (n ≤ shortRun) ⌝ }
     ensures { λ r. ⌜ r ≡ runOn s (now (image .entry)) (now (samples .entry)) n .word ⌝ }
     ensures { λ r. ⌜ now (image .exit) ≡ runOn s (now (image .entry)) (now (samples .entry)) n .image ⌝ }
     ensures { λ r. ⌜ now (samples .exit) ≡ runOn s (now (image .entry)) (now (samples .entry)) n .lent ⌝ }
 {
-    let mut buf = [0.0f32; FEW];
+    let mut buf = [0.0f32; SHORT_SAMPLES];
     run_through(s, n, samples, image, &mut buf)
 }
 
 fn run_long(s: State, n: u64, samples: &mut [u8], image: &mut [u8]) -> u64
-    requires { ⌜ (length (now image) ≡ imageBytes) × (inRange s ≡ true) ⌝ }
+    requires { ⌜ (length (now image) ≡ imageBytes) × Known s ⌝ }
     ensures { λ r. ⌜ r ≡ runOn s (now (image .entry)) (now (samples .entry)) n .word ⌝ }
     ensures { λ r. ⌜ now (image .exit) ≡ runOn s (now (image .entry)) (now (samples .entry)) n .image ⌝ }
     ensures { λ r. ⌜ now (samples .exit) ≡ runOn s (now (image .entry)) (now (samples .entry)) n .lent ⌝ }
 {
-    let mut buf = [0.0f32; MOST];
+    let mut buf = [0.0f32; SAMPLES_MOST];
     run_through(s, n, samples, image, &mut buf)
 }
 
-pub fn run_state(s: State, n: u64, samples: &mut [u8], image: &mut [u8]) -> u64
-    requires { ⌜ (length (now image) ≡ imageBytes) × (inRange s ≡ true) ⌝ }
+// A run from a state, and the image of the state after it.
+pub fn run_on(s: State, n: u64, samples: &mut [u8], image: &mut [u8]) -> u64
+    requires { ⌜ (length (now image) ≡ imageBytes) × Known s ⌝ }
     ensures { λ r. ⌜ r ≡ runOn s (now (image .entry)) (now (samples .entry)) n .word ⌝ }
     ensures { λ r. ⌜ now (image .exit) ≡ runOn s (now (image .entry)) (now (samples .entry)) n .image ⌝ }
     ensures { λ r. ⌜ now (samples .exit) ≡ runOn s (now (image .entry)) (now (samples .entry)) n .lent ⌝ }
 {
-    if n <= 1_920 {
+    if n <= SHORT_RUN {
         return run_short(s, n, samples, image);
     }
     run_long(s, n, samples, image)

@@ -1,86 +1,80 @@
 -- `namco163_load` meets its contract: refused by the image, refused by the load, and accepted.
-use mathlib.Core.Path.{_≡_, sym, ap, _∙_}
+use mathlib.Core.Path.{_≡_, refl, ap, _∙_}
 use mathlib.Core.List.{_∷_}
 use lib.ListN.{length}
 use borrow.Author.Needs.{needs}
-use Rattle.call_load.specs.declared.Loaded.{Loaded}
+use Rattle.memory.specs.declared.layout.MemoryLayout.{MemoryLayout}
 use Rattle.call_refusals.specs.Refusals.{firstOf, loadChecks}
-use Rattle.call_load.specs.Cartridge.{freshState}
-use Rattle.image_write.specs.Writing.{imageCheck, writtenImage}
-use Rattle.thm_range.proofs.Refused.{load-number, load-refused}
-use Rattle.thm_range.proofs.Calls.{load-fits}
+use Rattle.image_write.specs.Image.{imageOf}
+use Rattle.image_write.specs.Writing.{imageCheck}
+use Rattle.thm_range.proofs.Refused.{load-refused}
+use Rattle.host_state.specs.HostState.{Gives}
 use Rattle.host.specs.Host.{yes, sizesOf, loadGives, hostLoad}
-use Rattle.host_state.proofs.Laws.{Called, called, word-of, image-of, lent-of, written-in-range}
-use Rattle.host.proofs.Laws.{not-307, is-307, load-state}
+use Rattle.host_state.proofs.Laws.{Called, called, word-of, image-of, lent-of}
+use Rattle.host.proofs.Laws.{not-long, long, load-number, load-known, load-fresh}
 use Rattle.host.proofs.namco163_load.Statement.{statement}
 use Rattle.host.proofs.namco163_load.Tie as tie
+
+-- from the load the start, from its accepted answer the load; the sizes that the start was given, and what the load gives
+abbrev start : tie.After-load → tie.Start
+start c = c .before .before .before .before .before
+
+abbrev load : tie.Else2 → tie.After-load
+load c = c .before .before .before .before
+
+abbrev sizes : tie.Start → MemoryLayout
+sizes t = let a = t .args in sizesOf (a .prg-rom) (a .prg-ram) (a .battery) (a .chr) (a .chr-ram) (a .ciram)
+
+abbrev given : tie.Start → Gives
+given t = let a = t .args in loadGives (a .arena .now) (a .mapper) (a .submapper) (a .flags) (a .in-database) (sizes t)
 
 returns : tie.Need-returns
 unfolding hostLoad
 returns c =
-    let a = c .before .before .before .args in
-    let sizes = sizesOf (a .prg-rom) (a .prg-ram) (a .battery) (a .chr) (a .chr-ram) (a .ciram) in
-    let e =
-    not-307 (a .image .now) (loadChecks (a .mapper) sizes (length (a .arena .now))) (a .arena .now)
-    (loadGives (a .arena .now) (a .mapper) (a .submapper) (a .flags) (a .in-database) sizes) (c .if1 .taken) in
+    let t = c .before .before .before in let a = t .args in
+    let e = not-long (a .image .now) (loadChecks (a .mapper) (sizes t) (length (a .arena .now))) (a .arena .now) (given t)
+    (c .if1 .taken) in
     (word-of e, (image-of e, lent-of e))
 
 -- the load's number
-number : (c : tie.After-load) → let a = c .before .before .before .before .before .args in
-    c .load .result .refusal ≡ firstOf
-    (loadChecks (a .mapper) (sizesOf (a .prg-rom) (a .prg-ram) (a .battery) (a .chr) (a .chr-ram) (a .ciram))
-    (length (a .arena .now)))
+number : (c : tie.After-load) → let t = start c in
+    c .load .result .refusal ≡ firstOf (loadChecks (t .args .mapper) (sizes t) (length (t .args .arena .now)))
 number c =
-    let a = c .before .before .before .before .before .args in
-    ap (λ (x : Loaded). x .refusal) (c .load .ensures .0)
-    ∙ load-number (a .mapper) (a .submapper) (a .flags) (yes (a .in-database)) _ (length (a .arena .now))
+    let t = start c in let a = t .args in
+    load-number (a .mapper) (a .submapper) (a .flags) (yes (a .in-database)) (sizes t) (a .arena .now) _ (c .load .ensures .0)
 
-call : (c : tie.After-load) → let a = c .before .before .before .before .before .args in
-    let sizes = sizesOf (a .prg-rom) (a .prg-ram) (a .battery) (a .chr) (a .chr-ram) (a .ciram) in
-    Called (imageCheck (length (a .image .now)) ∷ loadChecks (a .mapper) sizes (length (a .arena .now))) (a .image .now) (a .arena .now)
-    (loadGives (a .arena .now) (a .mapper) (a .submapper) (a .flags) (a .in-database) sizes) (c .load .result .refusal)
-call c =
-    called _ _ _ _ _ (number c ∙ is-307 (c .before .before .before .before .before .args .image .now) _ (c .before .before .if1 .left))
+call : (c : tie.After-load) → let t = start c in let a = t .args in
+    Called (imageCheck (length (a .image .now)) ∷ loadChecks (a .mapper) (sizes t) (length (a .arena .now))) (a .image .now) (a .arena .now)
+    (given t) (given t) (c .load .result .refusal)
+call c = called _ _ _ _ _ _ (number c ∙ long (start c .args .image .now) _ (c .before .before .if1 .left)) refl
 
 returns-2 : tie.Need-returns-2
 unfolding hostLoad
 returns-2 c =
-    let c1 = c .before in let c5 = c1 .before .before .before .before in
-    let a = c5 .before .before .before .before .before .args in
-    let h = c1 .if2 .taken in
-    let e = call c5 .refused h in (
-      word-of e,
-      (
-        image-of e,
-        c5 .load .ensures .1
-            ∙ load-refused (a .mapper) (a .submapper) (a .flags) (yes (a .in-database)) _ (a .arena .now) (λ z. h (number c5 ∙ z)) .1
-            ∙ lent-of e,
-      ),
+    let refused = c .before in
+    let l = refused .before .before .before .before in
+    let a = start l .args in
+    let h = refused .if2 .taken in
+    let e = call l .refused h in
+    let kept = load-refused (a .mapper) (a .submapper) (a .flags) (yes (a .in-database)) _ (a .arena .now) (λ z. h (number l ∙ z)) .1 in
+    (word-of e, (image-of e, l .load .ensures .1 ∙ kept ∙ lent-of e))
+
+put-state-requires : tie.Need-put-state-requires
+put-state-requires c κs =
+    let done = c .before .before in let l = load done in let t = start l in let a = t .args in (
+      l .before .before .if1 .left,
+      load-known (a .mapper) (a .submapper) (a .flags) (yes (a .in-database)) (sizes t) (a .arena .now) _ (l .load .ensures .0) (search needs)
+          (done .if2 .left),
     )
 
 returns-3 : tie.Need-returns-3
 unfolding hostLoad
 returns-3 c =
-    let c2 = c .before .before in let c5 = c2 .before .before .before in let c9 = c5 .before .before .before .before in
-    let a = c9 .before .before .before .before .before .args in
-    let img = a .image .now in
-    let known = yes (a .in-database) in
-    let sizes = sizesOf (a .prg-rom) (a .prg-ram) (a .battery) (a .chr) (a .chr-ram) (a .ciram) in
-    let r = c9 .load .ensures in
-    let z = c5 .if2 .left in
-    let n = sym (number c9) ∙ z in
-    let e = call c9 .accepted z in (
-      word-of e,
-      (
-        c2 .write-image .ensures .1
-            ∙ ap (λ (x : Loaded). writtenImage (x .state) img) (r .0)
-            ∙ ap (λ x. writtenImage x img) (load-state (a .mapper) (a .submapper) (a .flags) known sizes (length (a .arena .now)) n)
-            ∙ written-in-range (freshState (a .mapper) (a .submapper) (a .flags) known sizes) img (c9 .before .before .if1 .left)
-            (load-fits (a .mapper) (a .submapper) (a .flags) known sizes (a .arena .now) n .range)
-            ∙ image-of e,
-        r .1 ∙ lent-of e,
-      ),
-    )
+    let put = c .before .before in let done = put .before .before .before in let l = load done in let t = start l in let a = t .args in
+    let r = l .load .ensures in let z = done .if2 .left in
+    let e = call l .accepted z in
+    let fresh = load-fresh (a .mapper) (a .submapper) (a .flags) (yes (a .in-database)) (sizes t) (a .arena .now) _ (r .0) z in
+    (word-of e, (put .put-state .ensures ∙ ap imageOf fresh ∙ image-of e, r .1 ∙ lent-of e))
 
 pub namco163-load-spec : {M : Type 1} → statement M
 namco163-load-spec =
@@ -91,7 +85,7 @@ namco163-load-spec =
     (λ c. search needs)  -- cast-result
     (λ c. search needs)  -- same-length
     returns-2
-    (λ c κs. search needs)  -- write-image-requires
+    put-state-requires
     (λ c. search needs)  -- same-length-2
     (λ c. search needs)  -- same-length-3
     returns-3)

@@ -1,48 +1,42 @@
 -- `namco163_read` meets its contract: refused by the image, or on with its state.
-use mathlib.Core.Path.{sym, ap, _∙_}
 use native.Mathlib.Omega.{arith}
 use borrow.Author.Needs.{needs}
-use Rattle.image_write.specs.Image.{imageOf}
-use Rattle.image_read.specs.declared.reading.ReadImage.{ReadImage}
-use Rattle.image_read.proofs.RoundTrip.{written-read}
-use Rattle.board_state.specs.declared.State.{State}
-use Rattle.host_state.specs.HostState.{readGives, readOn}
+use Rattle.host_state.specs.HostState.{readGives}
 use Rattle.host.specs.Host.{cpuOwn, hostRead}
-use Rattle.host_state.proofs.Laws.{word-of, image-of}
+use Rattle.host_state.proofs.Laws.{word-of, image-of, two-of}
 use Rattle.host.proofs.Laws.{OnImage, on-image}
 use Rattle.host.proofs.namco163_read.Statement.{statement}
 use Rattle.host.proofs.namco163_read.Tie as tie
 
-call : (c : tie.After-read-image) → let a = c .before .before .before .before .args in
-    OnImage (a .image .now) (a .arena .now) (hostRead (a .image .now) (a .arena .now) (a .addr))
-    (λ (s : State). readOn s (a .image .now) (a .arena .now) (a .addr)) (c .read-image .result)
-unfolding hostRead
-call c =
-    let a = c .before .before .before .before .args in
-    on-image (a .image .now) (a .arena .now) (λ s. cpuOwn s (a .arena .now) (a .addr))
-    (λ s. readGives s (a .arena .now) (a .addr)) (c .read-image .result) (c .read-image .ensures)
+-- from the image read the start, and from its accepted answer the image read
+abbrev start : tie.After-read-image → tie.Start
+start c = c .before .before .before .before
+
+abbrev read : tie.Else1 → tie.After-read-image
+read c = c .before .before
+
+call : (c : tie.After-read-image) → let a = start c .args in
+    OnImage (a .image .now) (a .arena .now) (λ s. cpuOwn s (a .arena .now) (a .addr)) (λ s. readGives s (a .arena .now) (a .addr)) (c .read-image .result)
+call c = on-image _ _ _ _ _ (c .read-image .ensures)
 
 returns : tie.Need-returns
+unfolding hostRead
 returns c =
-    let c1 = c .before in let c3 = c1 .before .before in
-    let e = call c3 .refused (c1 .if1 .taken) in (word-of e, image-of e)
+    let refused = c .before in
+    let e = call (refused .before .before) .refused (refused .if1 .taken) in (word-of e, image-of e)
 
 -- the lent bytes are the image of the state that was read
-read-state-requires : tie.Need-read-state-requires
-read-state-requires c κs =
-    let c2 = c .before .before in let c4 = c2 .before .before in let c7 = c4 .before .before .before in
-    let z = c2 .if1 .left in let g = call c4 .good z in (
-      g .0,
-      sym (ap (λ (x : ReadImage). imageOf (x .state)) (c4 .read-image .ensures)
-          ∙ written-read (c7 .before .args .image .now) (λ i. omega (arith, c7 .slice-known .given i)) (call c4 .accepted z)),
-      g .1,
-    )
+read-on-requires : tie.Need-read-on-requires
+read-on-requires c κs =
+    let accepted = c .before .before in let r = read accepted in let lent = r .before .before .before in
+    let z = accepted .if1 .left in let g = call r .good z in
+    (g .0, call r .image (λ i. omega (arith, lent .slice-known .given i)) z, g .1)
 
 returns-2 : tie.Need-returns-2
+unfolding hostRead
 returns-2 c =
-    let c2 = c .before .before in let c5 = c2 .before .before .before in let c7 = c5 .before .before in
-    let e = call c7 .goes-on (c5 .if1 .left) in let w = c2 .read-state .ensures in
-    (w .0 ∙ word-of e, w .1 ∙ image-of e)
+    let on = c .before .before in let accepted = on .before .before .before in
+    two-of (on .read-on .ensures) (call (read accepted) .goes-on (accepted .if1 .left))
 
 pub namco163-read-spec : {M : Type 1} → statement M
 namco163-read-spec =
@@ -52,6 +46,6 @@ namco163-read-spec =
     (λ c. search needs)  -- cast-result
     (λ c. search needs)  -- same-length
     returns
-    read-state-requires
+    read-on-requires
     (λ c. search needs)  -- same-length-2
     returns-2)

@@ -1,38 +1,38 @@
 -- `namco163_write` meets its contract: refused by the image, or on with its state.
-use mathlib.Core.Path.{_∙_}
 use borrow.Author.Needs.{needs}
-use Rattle.board_state.specs.declared.State.{State}
-use Rattle.host_state.specs.HostState.{writeGives, writeOn}
+use Rattle.host_state.specs.HostState.{writeGives}
 use Rattle.host.specs.Host.{cpuOwn, hostWrite}
-use Rattle.host_state.proofs.Laws.{word-of, image-of, lent-of}
+use Rattle.host_state.proofs.Laws.{word-of, image-of, lent-of, three-of}
 use Rattle.host.proofs.Laws.{OnImage, on-image}
 use Rattle.host.proofs.namco163_write.Statement.{statement}
 use Rattle.host.proofs.namco163_write.Tie as tie
 
-call : (c : tie.After-read-image) → let a = c .before .before .before .before .args in
-    OnImage (a .image .now) (a .arena .now) (hostWrite (a .image .now) (a .arena .now) (a .addr) (a .val))
-    (λ (s : State). writeOn s (a .image .now) (a .arena .now) (a .addr) (a .val)) (c .read-image .result)
-unfolding hostWrite
-call c =
-    let a = c .before .before .before .before .args in
-    on-image (a .image .now) (a .arena .now) (λ s. cpuOwn s (a .arena .now) (a .addr))
-    (λ s. writeGives s (a .arena .now) (a .addr) (a .val)) (c .read-image .result) (c .read-image .ensures)
+-- from the image read the start, and from its accepted answer the image read
+abbrev start : tie.After-read-image → tie.Start
+start c = c .before .before .before .before
+
+abbrev read : tie.Else1 → tie.After-read-image
+read c = c .before .before
+
+call : (c : tie.After-read-image) → let a = start c .args in
+    OnImage (a .image .now) (a .arena .now) (λ s. cpuOwn s (a .arena .now) (a .addr)) (λ s. writeGives s (a .arena .now) (a .addr) (a .val)) (c .read-image .result)
+call c = on-image _ _ _ _ _ (c .read-image .ensures)
 
 returns : tie.Need-returns
+unfolding hostWrite
 returns c =
-    let c1 = c .before in let c3 = c1 .before .before in
-    let e = call c3 .refused (c1 .if1 .taken) in (word-of e, (image-of e, lent-of e))
+    let refused = c .before in
+    let e = call (refused .before .before) .refused (refused .if1 .taken) in (word-of e, (image-of e, lent-of e))
 
-write-state-requires : tie.Need-write-state-requires
-write-state-requires c κs =
-    let c3 = c .before .before .before in let c5 = c3 .before .before in call c5 .good (c3 .if1 .left)
+write-on-requires : tie.Need-write-on-requires
+write-on-requires c κs = let accepted = c .before .before .before in call (read accepted) .good (accepted .if1 .left)
 
 returns-2 : tie.Need-returns-2
+unfolding hostWrite
 returns-2 c =
-    let c4 = c .before .before .before .before in let c8 = c4 .before .before .before .before in
-    let c10 = c8 .before .before in
-    let e = call c10 .goes-on (c8 .if1 .left) in let w = c4 .write-state .ensures in
-    (w .0 ∙ word-of e, (w .1 .0 ∙ image-of e, w .1 .1 ∙ lent-of e))
+    let on = c .before .before .before .before in
+    let accepted = on .before .before .before .before in
+    three-of (on .write-on .ensures) (call (read accepted) .goes-on (accepted .if1 .left))
 
 pub namco163-write-spec : {M : Type 1} → statement M
 namco163-write-spec =
@@ -42,7 +42,7 @@ namco163-write-spec =
     (λ c. search needs)  -- cast-result
     (λ c. search needs)  -- same-length
     returns
-    write-state-requires
+    write-on-requires
     (λ c. search needs)  -- same-length-2
     (λ c. search needs)  -- same-length-3
     returns-2)

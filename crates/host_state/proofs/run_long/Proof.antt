@@ -1,13 +1,13 @@
 -- `run_long` meets its contract: its buffer holds the run.
 use borrow.Author.Needs.{needs}
-use Rattle.host_state.proofs.samples.Laws.{made-most}
+use Rattle.call_run.proofs.run.Laws.{made-most}
 use Rattle.host_state.proofs.run_long.Statement.{statement}
 use Rattle.host_state.proofs.run_long.Tie as tie
 
 run-through-requires : tie.Need-run-through-requires
 run-through-requires c κs =
-    let t = c .before .before .before .before .before in
-    (t .pre .0, t .pre .1, λ h. made-most (t .args .s) (t .args .n) (t .pre .1) h)
+    let lent = c .before .before in let t = lent .before .before .before in
+    (t .pre .0, t .pre .1, λ h. made-most (t .args .n) (t .args .s) (t .pre .1 .range .chip .audio .counter) h)
 
 pub run-long-spec : {M : Type 1} → statement M
 run-long-spec =

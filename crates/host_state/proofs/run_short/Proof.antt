@@ -1,12 +1,12 @@
 -- `run_short` meets its contract: its buffer holds the run.
 use borrow.Author.Needs.{needs}
-use Rattle.host_state.proofs.samples.Laws.{made-few}
+use Rattle.host_state.proofs.Laws.{made-few}
 use Rattle.host_state.proofs.run_short.Statement.{statement}
 use Rattle.host_state.proofs.run_short.Tie as tie
 
 run-through-requires : tie.Need-run-through-requires
 run-through-requires c κs =
-    let t = c .before .before .before .before .before in
+    let lent = c .before .before in let t = lent .before .before .before in
     (t .pre .0, t .pre .1, λ h. made-few (t .args .s) (t .args .n) (t .pre .1) (t .pre .2))
 
 pub run-short-spec : {M : Type 1} → statement M

@@ -1,8 +1,8 @@
 -- `at_most` meets its contract.
 use borrow.Author.Tests.{lt-ltb, le-ltb}
 use native.Mathlib.Omega.{arith}
-use Rattle.host_state.proofs.samples.at_most.Statement.{statement}
-use Rattle.host_state.proofs.samples.at_most.Tie as tie
+use Rattle.host_samples.proofs.at_most.Statement.{statement}
+use Rattle.host_samples.proofs.at_most.Tie as tie
 
 returns : tie.Need-returns
 returns c = (rw (lt-ltb _ _ (c .if1 .taken)), omega arith)

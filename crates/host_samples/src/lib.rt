@@ -1,25 +1,19 @@
 // A run for the host: its samples into a buffer, and from there to the host's bytes.
 use board_state::State;
 use call_run::run::Ran;
-use call_run::run::run_of;
+use call_run::run::run_known;
 ghost use mathlib.Core.Path.{_≡_};
-ghost use mathlib.Core.Bool.{true, cond, not};
+ghost use mathlib.Core.Bool.{cond, not};
 ghost use mathlib.Core.List.{_++_};
-ghost use Prim.Native.Nat.{ℕ, _+_, _*_, _≤_, _<_};
+ghost use Prim.Native.Nat.{ℕ, _+_, _*_, _/_, _≤_, _<_};
 ghost use lib.Dec.{T, ltb};
 ghost use lib.Ieee.{nan, isNan};
 ghost use lib.ListN.{length, getD, take, drop};
 ghost use lib.Seq.{sets};
 ghost use Rattle.bits.specs.Fields.{each};
-ghost use Rattle.board_state.specs.State.{inRange};
+ghost use Rattle.board_state.specs.State.{Known};
 ghost use Rattle.call_run.specs.Run.{ranOf};
-ghost use Rattle.host_state.specs.HostState.{sampleBytes, runIn, HoldsRun};
-
-// As many samples as a run can make: 65,536 clocks from an update counter of 14.
-pub const MOST: usize = 4_370;
-
-// As many as a short run can make, of at most 1,920 clocks.
-pub const FEW: usize = 128;
+ghost use Rattle.host_samples.specs.Samples.{sampleBytes, runIn, HoldsRun};
 
 // One sample at a place of the bytes.
 fn put_sample(bytes: &mut [u8], at: usize, x: f32)
@@ -55,11 +49,11 @@ fn at_most(room: usize, places: usize) -> usize
     places
 }
 
-// A run with room for so many samples, into a buffer that holds all that it can make.
-pub fn run_into(s: State, n: u64, room: usize, buf: &mut [f32]) -> Ran
-    requires { ⌜ (inRange s ≡ true) × HoldsRun s n (length (now buf)) ⌝ }
-    ensures { λ r. ⌜ (r ≡ ranOf (runIn s n room (now (buf .entry)))) × (now (buf .exit) ≡ runIn s n room (now (buf .entry)) .samples) ⌝ }
+// A run with room for a sample in each 4 of so many bytes, into a buffer that holds all that it can make.
+pub fn run_into(s: State, n: u64, bytes: usize, buf: &mut [f32]) -> Ran
+    requires { ⌜ Known s × HoldsRun s n (length (now buf)) ⌝ }
+    ensures { λ r. ⌜ (r ≡ ranOf (runIn s n (bytes / 4) (now (buf .entry)))) × (now (buf .exit) ≡ runIn s n (bytes / 4) (now (buf .entry)) .samples) ⌝ }
 {
-    let places = at_most(room, buf.len());
-    run_of(true, s, n, &mut buf[..places])
+    let places = at_most(bytes / 4, buf.len());
+    run_known(s, n, &mut buf[..places])
 }

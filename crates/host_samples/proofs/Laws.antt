@@ -8,7 +8,7 @@ use native.Mathlib.Omega.{arith}
 use borrow.Author.Tests.{le-ltb, ltb-false}
 use lib.Dec.{T, ltb}
 use lib.Ieee.{Float, nan, binary32, toBits, isNan}
-use lib.ListN.{length, take, drop, getD, length-append, length-drop, take-append-drop, List·getD-append}
+use lib.ListN.{length, take, drop, getD, length-append, length-drop, take-append-drop}
 use lib.Seq.{sets, sets-eq, take-at, drop-append-add, drop-append-le, drop-drop, length-take-le, take-suc}
 use Rattle.bits.specs.Fields.{total, unpack, each}
 use Rattle.bits.specs.Words.{bytesOf}
@@ -19,15 +19,13 @@ use Rattle.cut.specs.Contract.{lastOr, runBy}
 use Rattle.sound_clock.proofs.Range.Run.{samples-number}
 use Rattle.board_chip.specs.Namco163.{is163}
 use Rattle.board_state.specs.declared.State.{State}
-use Rattle.board_state.specs.State.{inRange}
+use Rattle.board_state.specs.State.{Known}
+use Rattle.board_state.proofs.Range.{known-audio}
 use Rattle.call_refusals.specs.Refusals.{firstOf}
 use Rattle.call_run.specs.declared.run.Ran.{Ran}
-use Rattle.call_run.specs.Run.{clocks, made, runChecks, ranOf}
-use Rattle.board_state.proofs.Range.{counter-small}
-use Rattle.call_run.proofs.run.Laws.{run-good, made-floor, sounds-samples, silent-samples}
-use Rattle.thm_range.specs.Typed.{Typed}
-use Rattle.thm_range.proofs.State.{state-in}
-use Rattle.host_state.specs.HostState.{sampleBytes, runIn, HoldsRun}
+use Rattle.call_run.specs.Run.{clocks, made, runLimit, samplesMost, runChecks, ranOf}
+use Rattle.call_run.proofs.run.Laws.{run-good, made-most, sounds-samples, silent-samples}
+use Rattle.host_samples.specs.Samples.{sampleBytes, runIn, HoldsRun}
 
 -- ---- bytes
 
@@ -73,37 +71,19 @@ put-more xs l j h r =
     ∙ ap (λ (x : List ℕ). x ++ drop (4 * j + length vs) (done ++ old)) first
     ∙ ap (λ (x : List ℕ). each sampleBytes (take (j + 1) xs) ++ x) rest
 
--- ---- a run's room
+-- ---- a run's room: more than a buffer that holds the run changes nothing
 
-made-bound : (s : State) (n : ℕ) → inRange s ≡ true → made n s ≤ (14 + n) / 15
-made-bound s n e = omega (arith, made-floor n s u, by (is163 (s .chip .board)) (s .chip .audio .disabled))
-  where
-    u : s .chip .audio .«update_counter» ≤ 14
-    u = counter-small s e
-
-    by : (b d : Bool) → cond b (cond d 0 ((s .chip .audio .«update_counter» + n) / 15)) 0 ≤ (14 + n) / 15
-    by true true = omega arith
-    by true false = omega (arith, u)
-    by false d = omega arith
-
-pub made-most : (s : State) (n : ℕ) → inRange s ≡ true → n ≤ 65536 → made n s ≤ 4370
-made-most s n e h = omega (arith, made-bound s n e)
-
-pub made-few : (s : State) (n : ℕ) → inRange s ≡ true → n ≤ 1920 → made n s ≤ 128
-made-few s n e h = omega (arith, made-bound s n e)
-
--- so more room than a buffer that holds the run changes nothing
 pub room-enough : (s : State) (n room places : ℕ) → HoldsRun s n places
     → firstOf (runChecks s n (cond (ltb room places) room places)) ≡ firstOf (runChecks s n room)
 unfolding firstOf
-room-enough s n room places holds = go (ltb 65536 n) (ltb room places) refl refl
+room-enough s n room places holds = go (ltb runLimit n) (ltb room places) refl refl
   where
-    go : (l b : Bool) → ltb 65536 n ≡ l → ltb room places ≡ b
+    go : (l b : Bool) → ltb runLimit n ≡ l → ltb room places ≡ b
         → firstOf (runChecks s n (cond (ltb room places) room places)) ≡ firstOf (runChecks s n room)
     go true b le be = rw le
     go false true le be = rw be
     go false false le be =
-        let m = holds (ltb-false 65536 n le) in
+        let m = holds (ltb-false runLimit n le) in
         rw (be, le, le-ltb places (made n s) m, le-ltb room (made n s) (omega (arith, m, ltb-false room places be)))
 
 pub run-number : (q : ℕ) (t : Point State Float) (lent : List Float) (s : State) → runBy q t lent s .refusal ≡ q
@@ -131,7 +111,6 @@ whole-buffer (suc q) t buf p s h = take-append-drop p buf
 
 -- its answer, its samples first in the buffer, and that they are few enough for a buffer that holds the run and for the host's bytes
 pub record Ended (s : State) (n : ℕ) (bytes : List ℕ) (r : Ran) (after : List Float) : Type 0 where
-  pub good : inRange s ≡ true
   pub is : r ≡ (let t = clocks n s in record {
     refusal = 0;
     made = length (t .stretch .samples);
@@ -140,15 +119,15 @@ pub record Ended (s : State) (n : ℕ) (bytes : List ℕ) (r : Ran) (after : Lis
     state = t .state;
   })
   pub first : take (r .made) after ≡ clocks n s .stretch .samples
-  pub buffer : r .made ≤ 4370
+  pub buffer : r .made ≤ samplesMost
   pub held : (places : ℕ) → HoldsRun s n places → r .made ≤ places
   pub lent : 4 * r .made ≤ length bytes
 
 pub ended : (s : State) (n : ℕ) (bytes : List ℕ) (lent : List Float) (r : Ran) (after : List Float)
     → (r ≡ ranOf (runIn s n (length bytes / 4) lent)) × (after ≡ runIn s n (length bytes / 4) lent .samples)
-    → r .refusal ≡ 0 → Ended s n bytes r after
+    → Known s → r .refusal ≡ 0 → Ended s n bytes r after
 unfolding made
-ended s n bytes lent r after e z =
+ended s n bytes lent r after e k z =
     let q = firstOf (runChecks s n (length bytes / 4)) in
     let t = clocks n s in
     let w = t .stretch .samples in
@@ -158,34 +137,26 @@ ended s n bytes lent r after e z =
     e .0 ∙ ap (λ (x : ℕ). ranOf (runBy x t lent s)) accepted in
     let m : r .made ≡ length w = ap (λ (x : Ran). x .made) i in
     record {
-      good = g .good;
       is = i;
       first =
           ap (λ (k : ℕ). take k after) m ∙ ap (take (length w)) (e .1 ∙ ap (λ (x : ℕ). runBy x t lent s .samples) accepted)
           ∙ take-at w (drop (length w) lent) (length w) refl;
-      buffer = omega (arith, m, made-most s n (g .good) (g .short));
+      buffer = omega (arith, m, made-most n s (k .range .chip .audio .counter) (g .short));
       held = λ places h. omega (arith, m, h (g .short));
       lent = omega (arith, m, g .enough);
     }
 
 -- no sample is a NaN
-pub samples-numbers : (s : State) (n : ℕ) → Typed s → inRange s ≡ true → (j : ℕ) → j < length (clocks n s .stretch .samples)
+pub samples-numbers : (s : State) (n : ℕ) → Known s → (j : ℕ) → j < length (clocks n s .stretch .samples)
     → T (not (isNan (getD (clocks n s .stretch .samples) j nan)))
-samples-numbers s n y e j = go (is163 (s .chip .board)) refl
+samples-numbers s n k j = go (is163 (s .chip .board)) refl
   where
     go : (t : Bool) → is163 (s .chip .board) ≡ t → j < length (clocks n s .stretch .samples)
         → T (not (isNan (getD (clocks n s .stretch .samples) j nan)))
     go true b h =
         rw (sounds-samples n s b)
-        (samples-number n (s .chip .audio) (y .audio) (state-in s y e .chip .audio) j (rw (sounds-samples n s b) at h))
+        (samples-number n (s .chip .audio) (known-audio s k) j (rw (sounds-samples n s b) at h))
     go false b h = absurd (none j (rw (silent-samples n s b) at h))
       where
         none : (j : ℕ) → j < 0 → ⊥
         none j h = omega arith
-
--- what stands first in the buffer
-pub first-are : (buf xs : List Float) (k j : ℕ) → take k buf ≡ xs → j < length xs → getD buf j nan ≡ getD xs j nan
-first-are buf xs k j e h =
-    ap (λ (l : List Float). getD l j nan) (sym (take-append-drop k buf))
-    ∙ ap (λ (l : List Float). getD (l ++ drop k buf) j nan) e
-    ∙ List·getD-append xs (drop k buf) nan j h

@@ -4,12 +4,12 @@ use mathlib.Core.Path.{_≡_, ap, _∙_}
 use mathlib.Core.List.{_++_}
 use lib.ListN.{length, take, drop}
 use Rattle.bits.specs.Fields.{each}
-use Rattle.host_state.specs.HostState.{sampleBytes}
-use Rattle.host_state.proofs.samples.Laws.{put-none, put-length, put-more}
+use Rattle.host_samples.specs.Samples.{sampleBytes}
+use Rattle.host_samples.proofs.Laws.{put-none, put-length, put-more}
 use native.Mathlib.Omega.{arith}
 use borrow.Author.Needs.{needs}
-use Rattle.host_state.proofs.samples.put_samples.Statement.{statement}
-use Rattle.host_state.proofs.samples.put_samples.Tie as tie
+use Rattle.host_samples.proofs.put_samples.Statement.{statement}
+use Rattle.host_samples.proofs.put_samples.Tie as tie
 
 abbrev Inv-loop : tie.InvT-loop
 Inv-loop samples k bytes₀ j₀ bytes j = (j ≤ k) × (bytes ≡ each sampleBytes (take j samples) ++ drop (4 * j) bytes₀)
@@ -17,26 +17,32 @@ Inv-loop samples k bytes₀ j₀ bytes j = (j ≤ k) × (bytes ≡ each sampleBy
 abbrev μ-loop : tie.MeasureT-loop
 μ-loop samples k bytes₀ j₀ bytes j = k - j
 
-loop-holds : tie.Need-loop-holds Inv-loop μ-loop
-loop-holds c = (omega arith, put-none (c .before .before .args .samples .now) (c .before .before .args .bytes .now))
+-- from the loop the start, and from a turn's sample the loop
+abbrev start : tie.At-loop Inv-loop μ-loop → tie.Start Inv-loop μ-loop
+start c = c .before .before .before
 
-long : (c : tie.At-loop Inv-loop μ-loop) → length (c .loop .bytes) ≡ length (c .before .before .before .args .bytes .now)
+abbrev turn : tie.After-put-sample Inv-loop μ-loop → tie.At-loop Inv-loop μ-loop
+turn c = c .before .before .before .before
+
+loop-holds : tie.Need-loop-holds Inv-loop μ-loop
+loop-holds c = let a = c .before .before .args in (omega arith, put-none (a .samples .now) (a .bytes .now))
+
+long : (c : tie.At-loop Inv-loop μ-loop) → length (c .loop .bytes) ≡ length (start c .args .bytes .now)
 long c =
-    let a = c .before .before .before .args in
+    let a = start c .args in
     ap length (c .loop .inv .1) ∙ put-length (a .samples .now) (a .bytes .now) (c .loop .j) (omega arith) (omega arith)
 
 put-sample-requires : tie.Need-put-sample-requires Inv-loop μ-loop
 put-sample-requires c κs =
-    let c2 = c .before .before in let c3 = c2 .before in let c6 = c3 .before .before .before in
-    (omega (arith, long c3), c6 .pre .1 (c3 .loop .j) (c2 .loop-test .taken))
+    let test = c .before .before in let loop = test .before in
+    (omega (arith, long loop), start loop .pre .1 (loop .loop .j) (test .loop-test .taken))
 
 loop-again : tie.Need-loop-again Inv-loop μ-loop
 loop-again c =
-    let c2 = c .before .before in let c6 = c2 .before .before .before .before in let c9 = c6 .before .before .before in
-    let a = c9 .args in
-    let l = c6 .loop in (
+    let put = c .before .before in let loop = turn put in let a = start loop .args in
+    let l = loop .loop in (
       omega arith,
-      c2 .put-sample .ensures ∙ rw (l .inv .1) (put-more (a .samples .now) (a .bytes .now) (l .j) (omega arith) (omega arith)),
+      put .put-sample .ensures ∙ rw (l .inv .1) (put-more (a .samples .now) (a .bytes .now) (l .j) (omega arith) (omega arith)),
     )
 
 same-length : tie.Need-same-length Inv-loop μ-loop
@@ -44,8 +50,9 @@ same-length c = long (c .before)
 
 returns : tie.Need-returns Inv-loop μ-loop
 returns c =
-    let e : c .before .loop .j ≡ c .before .before .before .before .args .k = omega arith in
-    rw e at (c .before .loop .inv .1)
+    let loop = c .before in
+    let e : loop .loop .j ≡ start loop .args .k = omega arith in
+    rw e at (loop .loop .inv .1)
 
 pub put-samples-spec : {M : Type 1} → statement M
 put-samples-spec =

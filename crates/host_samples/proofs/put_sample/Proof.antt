@@ -2,11 +2,11 @@
 use Prim.Native.Nat.{suc, _+_}
 use mathlib.Core.Path.{_≡_}
 use lib.ListN.{length-set}
-use Rattle.host_state.proofs.samples.Laws.{four}
+use Rattle.host_samples.proofs.Laws.{four}
 use native.Mathlib.Omega.{arith}
 use borrow.Author.Needs.{needs}
-use Rattle.host_state.proofs.samples.put_sample.Statement.{statement}
-use Rattle.host_state.proofs.samples.put_sample.Tie as tie
+use Rattle.host_samples.proofs.put_sample.Statement.{statement}
+use Rattle.host_samples.proofs.put_sample.Tie as tie
 
 slice-write-bytes-2 : tie.Need-slice-write-bytes-2
 slice-write-bytes-2 c = simp length-set (omega arith)

@@ -1,2 +1,0 @@
--- The laws of samples and runs, and the proofs of src/samples.rt.
-pub mod Laws
