@@ -1,15 +1,18 @@
 -- "Refused calls, in checking order": each host call is accepted exactly where none of its conditions holds, and refused by a number
--- exactly where its condition is the first that holds. Words.antt says that this number is the answer's low 8 bits.
+-- exactly where its condition is the first that holds. Refused, its word is that number and what was lent stays; Words.antt says that the
+-- number is the answer's low 8 bits in every call.
 use Prim.Native.Nat.{ℕ}
+use mathlib.Core.Path.{_≡_}
 use mathlib.Core.List.{List, [], _∷_}
 use borrow.Author.Needs.{needs}
 use lib.ListN.{length}
 use Rattle.memory.specs.declared.layout.MemoryLayout.{MemoryLayout}
-use Rattle.call_refusals.specs.Refusals.{kindCheck, loadChecks}
+use Rattle.call_refusals.specs.Refusals.{Check, firstOf, kindCheck, loadChecks}
+use Rattle.call_refusals.proofs.Laws.{refused-is}
 use Rattle.image_write.specs.Writing.{imageCheck}
 use Rattle.thm_range.proofs.Decided.{Decided, decided}
-use Rattle.host_state.specs.HostState.{runOwn}
-use Rattle.host.specs.Host.{onImage, stateIn, cpuOwn}
+use Rattle.host_state.specs.HostState.{unaltered, runOwn}
+use Rattle.host.specs.Host.{onImage, stateIn, cpuOwn, hostLoad, hostReset, hostRead, hostWrite, hostRun}
 
 -- 1, 4, 5, 6, 7
 pub load-decided : (img arena : List ℕ) (mapper : ℕ) (sizes : MemoryLayout)
@@ -27,3 +30,34 @@ cpu-decided img arena addr = decided _ (search needs)
 -- 1, 2, 10, 11
 pub run-decided : (img samples : List ℕ) (n : ℕ) → Decided (onImage img (runOwn (stateIn img) samples n))
 run-decided img samples n = decided _ (search needs)
+
+-- ---- "a refused call has all other bits 0"; image, arena and sample bytes as they were
+
+abbrev Refused : List Check → Type 0
+Refused cs = firstOf cs ≡ 0 → ⊥
+
+module _ (img arena : List ℕ) (mapper sub flags known : ℕ) (sizes : MemoryLayout) where
+  pub load-refused : let cs = imageCheck (length img) ∷ loadChecks mapper sizes (length arena) in
+      Refused cs → hostLoad img arena mapper sub flags known sizes ≡ unaltered img arena (firstOf cs)
+  unfolding hostLoad
+  load-refused = refused-is _ _ _
+
+pub reset-refused : (img : List ℕ) (kind : ℕ) → let cs = onImage img (kindCheck kind ∷ []) in
+    Refused cs → hostReset img kind ≡ unaltered img [] (firstOf cs)
+unfolding hostReset
+reset-refused img kind = refused-is _ _ _
+
+pub read-refused : (img arena : List ℕ) (addr : ℕ) → let cs = onImage img (cpuOwn (stateIn img) arena addr) in
+    Refused cs → hostRead img arena addr ≡ unaltered img arena (firstOf cs)
+unfolding hostRead
+read-refused img arena addr = refused-is _ _ _
+
+pub write-refused : (img arena : List ℕ) (addr v : ℕ) → let cs = onImage img (cpuOwn (stateIn img) arena addr) in
+    Refused cs → hostWrite img arena addr v ≡ unaltered img arena (firstOf cs)
+unfolding hostWrite
+write-refused img arena addr v = refused-is _ _ _
+
+pub run-refused : (img samples : List ℕ) (n : ℕ) → let cs = onImage img (runOwn (stateIn img) samples n) in
+    Refused cs → hostRun img samples n ≡ unaltered img samples (firstOf cs)
+unfolding hostRun
+run-refused img samples n = refused-is _ _ _

@@ -4,7 +4,7 @@
 use Prim.Native.Nat.{ℕ, _+_, _^_, _<_}
 use mathlib.Core.Path.{_≡_, refl}
 use mathlib.Core.Bool.{false}
-use mathlib.Core.List.{List, _++_}
+use mathlib.Core.List.{List, [], _∷_, _++_}
 use mathlib.Core.Logic.{_⊎_}
 use lib.Ieee.{Float}
 use lib.ListN.{length}
@@ -12,15 +12,20 @@ use Rattle.cut.specs.Always.{AllTyped, NeverRefused}
 use Rattle.cut.specs.Calls.{Call, refused, start, outline, allClocks}
 use Rattle.cut.specs.Demand3.{observed, FirstRise}
 use Rattle.cut.specs.Machine.{machine}
+use Rattle.memory.specs.declared.layout.MemoryLayout.{MemoryLayout}
 use Rattle.memory.specs.Range.{Bytes}
 use Rattle.board_state.specs.declared.State.{State}
 use Rattle.board_state.specs.State.{Known}
-use Rattle.call_refusals.specs.Refusals.{firstOf}
+use Rattle.call_refusals.specs.Refusals.{firstOf, kindCheck, loadChecks}
 use Rattle.call_run.specs.Run.{runChecks, runGave}
 use Rattle.call_run.proofs.run.Laws.{refused-run}
 use Rattle.image_write.specs.Image.{imageOf}
+use Rattle.image_write.specs.Writing.{imageCheck}
 use Rattle.image_read.specs.Reading.{readImage}
 use Rattle.image_read.proofs.RoundTrip.{read-written, written-read}
+use Rattle.host_state.specs.HostState.{unaltered, runOwn}
+use Rattle.host.specs.Host.{onImage, stateIn, cpuOwn, hostLoad, hostReset, hostRead, hostWrite, hostRun}
+use Rattle.host.proofs.Refused as Host
 use Rattle.thm_machine.specs.Calls.{Held, Other, CallTyped}
 use Rattle.thm_machine.specs.Paper.{checks, paper}
 use Rattle.thm_machine.specs.Board.{otherGives, board}
@@ -41,7 +46,26 @@ pub demand-1-run : (s : State) (n : ℕ) (lent : List Float) → (firstOf (runCh
     → runGave s n lent ≡ record { refusal = firstOf (runChecks s n (length lent)); made = 0; rise = 0; samples = lent; state = s }
 demand-1-run s n lent = refused-run s n lent (firstOf (runChecks s n (length lent))) refl
 
--- ---- demand 2, what of it is a theorem: from every load, after every list, the state is known and the arena fits it, so 2 and 7 never come
+-- of the C calls: the number is the whole word, and image, arena and sample bytes stay
+pub demand-1-load : (img arena : List ℕ) (mapper sub flags known : ℕ) (sizes : MemoryLayout)
+    → let cs = imageCheck (length img) ∷ loadChecks mapper sizes (length arena) in
+      (firstOf cs ≡ 0 → ⊥) → hostLoad img arena mapper sub flags known sizes ≡ unaltered img arena (firstOf cs)
+demand-1-load = Host.load-refused
+
+pub demand-1-on-image : (img lent : List ℕ) (addr v kind n : ℕ) → let s = stateIn img in
+    ((firstOf (onImage img (kindCheck kind ∷ [])) ≡ 0 → ⊥)
+      → hostReset img kind ≡ unaltered img [] (firstOf (onImage img (kindCheck kind ∷ []))))
+    × ((firstOf (onImage img (cpuOwn s lent addr)) ≡ 0 → ⊥)
+      → hostRead img lent addr ≡ unaltered img lent (firstOf (onImage img (cpuOwn s lent addr))))
+    × ((firstOf (onImage img (cpuOwn s lent addr)) ≡ 0 → ⊥)
+      → hostWrite img lent addr v ≡ unaltered img lent (firstOf (onImage img (cpuOwn s lent addr))))
+    × ((firstOf (onImage img (runOwn s lent n)) ≡ 0 → ⊥)
+      → hostRun img lent n ≡ unaltered img lent (firstOf (onImage img (runOwn s lent n))))
+demand-1-on-image img lent addr v kind n =
+    (Host.reset-refused img kind, Host.read-refused img lent addr, Host.write-refused img lent addr v, Host.run-refused img lent n)
+
+-- ---- demand 2, what of it is a theorem: from every load, after every list, the state is known
+-- and the arena fits it, so 2 and 7 never come
 
 pub demand-2 : (l : Loaded) → l .submapper < 2 ^ 8 → (calls : List (Call Float Other)) → AllTyped CallTyped calls
     → Fit (observed board calls (loaded l) .state)
