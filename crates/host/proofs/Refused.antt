@@ -1,5 +1,5 @@
--- "Refused calls, in checking order": each host call is accepted exactly where none of its conditions holds, and refused by a number exactly where its
--- condition is the first that holds. Words.antt says that this number is the answer's low 8 bits.
+-- "Refused calls, in checking order": each host call is accepted exactly where none of its conditions holds, and refused by a number
+-- exactly where its condition is the first that holds. Words.antt says that this number is the answer's low 8 bits.
 use Prim.Native.Nat.{ℕ}
 use mathlib.Core.List.{List, [], _∷_}
 use borrow.Author.Needs.{needs}

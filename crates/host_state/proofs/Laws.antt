@@ -71,7 +71,8 @@ unfolding cpuRead
 read-called s img arena addr r e =
     let refusal : ByteRead → ℕ = λ x. x .refusal in
     called _ img arena _ _ _
-    (ap refusal e ∙ number-is (cpuChecks s (length arena) addr) (λ q. record { refusal = q; byte = 0; state = s }) _ refusal refl (λ q. refl))
+    (ap refusal e
+    ∙ number-is (cpuChecks s (length arena) addr) (λ q. record { refusal = q; byte = 0; state = s }) _ refusal refl (λ q. refl))
     (ap (λ (x : ByteRead). record { word = x .byte * 2 ^ 8; image = imageOf (x .state); lent = arena }) e)
 
 abbrev pub writeLeft : Written → List ℕ → Gives
@@ -90,7 +91,8 @@ write-called s img arena addr v r e =
     (ap (λ (x : Written). writeLeft x (cpuWriteArena s arena addr v)) e)
 
 -- a refused write leaves the arena
-pub write-kept : (s : State) (arena : List ℕ) (addr v : ℕ) → (firstOf (cpuChecks s (length arena) addr) ≡ 0 → ⊥) → cpuWriteArena s arena addr v ≡ arena
+pub write-kept : (s : State) (arena : List ℕ) (addr v : ℕ) → (firstOf (cpuChecks s (length arena) addr) ≡ 0 → ⊥)
+    → cpuWriteArena s arena addr v ≡ arena
 unfolding cpuWriteArena
 write-kept s arena addr v h = refused-is (cpuChecks s (length arena) addr) (λ q. arena) _ h
 

@@ -1,4 +1,5 @@
--- 01 "Host and image": what each call of the host answers and leaves on a state, once its image is read: `..Gives` where it is accepted, `..On` refused or not.
+-- 01 "Host and image": what each call of the host answers and leaves on a state, once its image is read: `..Gives` where it is accepted,
+-- `..On` refused or not.
 use Prim.Native.Nat.{ℕ, _+_, _*_, _/_, _^_}
 use mathlib.Core.List.{List, [], _∷_, _++_}
 use lib.ListN.{length, drop}

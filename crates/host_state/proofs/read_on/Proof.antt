@@ -33,7 +33,8 @@ returns-2 c =
 
 put-state-requires : tie.Need-put-state-requires
 put-state-requires c κs =
-    let port = c .before .before in let accepted = port .before .before in let r = accepted .before .before in let t = start r in let a = t .args in
+    let port = c .before .before in let accepted = port .before .before in let r = accepted .before .before in
+    let t = start r in let a = t .args in
     (t .pre .0, known-read (a .s) (a .arena .now) (a .addr) _ (r .cpu-read-known .ensures) (t .pre .2))
 
 returns-3 : tie.Need-returns-3

@@ -9,8 +9,8 @@ use Rattle.host_state.proofs.Laws.{WriteCalled, write-called, write-kep
 use Rattle.host_state.proofs.write_on.Statement.{statement}
 use Rattle.host_state.proofs.write_on.Tie as tie
 
--- from the CPU write where the lent arena is known, one step behind the start; from the accepted answer the CPU write; and from the image put the
--- accepted answer
+-- from the CPU write where the lent arena is known, one step behind the start; from the accepted answer the CPU write; and from
+-- the image put the accepted answer
 abbrev lent : tie.After-cpu-write-known → tie.After-slice-known
 lent c = c .before .before .before
 
