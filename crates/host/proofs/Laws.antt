@@ -107,15 +107,8 @@ module _ (mapper sub flags : ℕ) (known : Bool) (sizes : MemoryLayout) (arena :
   -- accepted, as a list of calls starts with it
   abbrev begun : r .refusal ≡ 0 → Start
   begun z =
-      record {
-        mapper = mapper;
-        submapper = sub;
-        flags = flags;
-        known = known;
-        sizes = sizes;
-        arena = arena;
-        accepted = sym load-number ∙ z;
-      }
+      let e = sym load-number ∙ z in
+      record { mapper = mapper; submapper = sub; flags = flags; known = known; sizes = sizes; arena = arena; accepted = e }
 
   pub load-known : sub < 2 ^ 8 → r .refusal ≡ 0 → Known (r .state)
   load-known b z = subst (λ (x : Loaded). Known (x .state)) (sym e) (load-fits (begun z) b .known)

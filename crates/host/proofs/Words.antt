@@ -1,5 +1,5 @@
--- "Each returns 64 bits: refusal in 0..7, 0 for accepted": the low 8 bits of every answer are the number of the first check that holds, 0
--- where none does, and the parts of an accepted answer stand in their bits, one beside the other.
+-- "Each returns 64 bits: refusal in 0..7, 0 for accepted": the low 8 bits of every answer are the number of the first check that holds,
+-- 0 where none does, and the parts of an accepted answer stand in their bits, one beside the other.
 use Prim.Native.Nat.{ℕ, _*_, _/_, _%_, _^_, _<_}
 use mathlib.Core.Path.{_≡_, refl, sym, subst, _∙_}
 use mathlib.Core.Bool.{Bool, true, false, cond}

@@ -1,5 +1,5 @@
--- 01 "Host and image": "Load, read, write, run and reset are exported to the C host on numbers and byte slices": what each call answers and
--- leaves on an image, refused calls too. What it does on the image's state is host_state's.
+-- 01 "Host and image": "Load, read, write, run and reset are exported to the C host on numbers and byte slices": what each call answers
+-- and leaves on an image, refused calls too. What it does on the image's state is host_state's.
 use Prim.Native.Nat.{ℕ}
 use mathlib.Core.Bool.{Bool, not}
 use mathlib.Core.List.{List, [], _∷_}

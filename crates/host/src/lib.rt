@@ -1,5 +1,4 @@
-// The five calls of the C host. An image is IMAGE_BYTES bytes; each call answers 64 bits, with its refusal number in the low 8, 0 for
-// accepted.
+// The five calls of the C host. Each answers 64 bits, with its refusal number in the low 8, 0 for accepted.
 use call_load::load;
 use host_state::read_on;
 use host_state::reset_on;
@@ -28,9 +27,12 @@ pub extern "C" fn namco163_load(
     chr_ram: u64,
     ciram: u64,
 ) -> u64
-    ensures { λ r. ⌜ r ≡ hostLoad (now (image .entry)) (now (arena .entry)) mapper submapper flags «in_database» (sizesOf «prg_rom» «prg_ram» battery chr «chr_ram» ciram) .word ⌝ }
-    ensures { λ r. ⌜ now (image .exit) ≡ hostLoad (now (image .entry)) (now (arena .entry)) mapper submapper flags «in_database» (sizesOf «prg_rom» «prg_ram» battery chr «chr_ram» ciram) .image ⌝ }
-    ensures { λ r. ⌜ now (arena .exit) ≡ hostLoad (now (image .entry)) (now (arena .entry)) mapper submapper flags «in_database» (sizesOf «prg_rom» «prg_ram» battery chr «chr_ram» ciram) .lent ⌝ }
+    ensures { λ r. ⌜ r ≡ hostLoad (now (image .entry)) (now (arena .entry)) mapper submapper flags «in_database»
+        (sizesOf «prg_rom» «prg_ram» battery chr «chr_ram» ciram) .word ⌝ }
+    ensures { λ r. ⌜ now (image .exit) ≡ hostLoad (now (image .entry)) (now (arena .entry)) mapper submapper flags «in_database»
+        (sizesOf «prg_rom» «prg_ram» battery chr «chr_ram» ciram) .image ⌝ }
+    ensures { λ r. ⌜ now (arena .exit) ≡ hostLoad (now (image .entry)) (now (arena .entry)) mapper submapper flags «in_database»
+        (sizesOf «prg_rom» «prg_ram» battery chr «chr_ram» ciram) .lent ⌝ }
 {
     if image.len() != IMAGE_BYTES {
         return 1;

@@ -109,15 +109,12 @@ whole-buffer (suc q) t buf p s h = take-append-drop p buf
 
 -- ---- what an accepted run knows
 
+abbrev ranTo : Point State Float → Ran
+ranTo t = record { refusal = 0; made = length (t .stretch .samples); rise = lastOr 0 (t .stretch .rises); state = t .state }
+
 -- its answer, its samples first in the buffer, and that they are few enough for a buffer that holds the run and for the host's bytes
 pub record Ended (s : State) (n : ℕ) (bytes : List ℕ) (r : Ran) (after : List Float) : Type 0 where
-  pub is : r ≡ (let t = clocks n s in record {
-    refusal = 0;
-    made = length (t .stretch .samples);
-    rise = lastOr 0
-        (t .stretch .rises);
-    state = t .state;
-  })
+  pub is : r ≡ ranTo (clocks n s)
   pub first : take (r .made) after ≡ clocks n s .stretch .samples
   pub buffer : r .made ≤ samplesMost
   pub held : (places : ℕ) → HoldsRun s n places → r .made ≤ places
@@ -133,8 +130,7 @@ ended s n bytes lent r after e k z =
     let w = t .stretch .samples in
     let accepted : q ≡ 0 = sym (ap (λ (x : Ran). x .refusal) (e .0) ∙ run-number q t lent s) ∙ z in
     let g = run-good s n (length bytes / 4) accepted in
-    let i : r ≡ record { refusal = 0; made = length w; rise = lastOr 0 (t .stretch .rises); state = t .state } =
-    e .0 ∙ ap (λ (x : ℕ). ranOf (runBy x t lent s)) accepted in
+    let i : r ≡ ranTo t = e .0 ∙ ap (λ (x : ℕ). ranOf (runBy x t lent s)) accepted in
     let m : r .made ≡ length w = ap (λ (x : Ran). x .made) i in
     record {
       is = i;
@@ -154,9 +150,5 @@ samples-numbers s n k j = go (is163 (s .chip .board)) refl
     go : (t : Bool) → is163 (s .chip .board) ≡ t → j < length (clocks n s .stretch .samples)
         → T (not (isNan (getD (clocks n s .stretch .samples) j nan)))
     go true b h =
-        rw (sounds-samples n s b)
-        (samples-number n (s .chip .audio) (known-audio s k) j (rw (sounds-samples n s b) at h))
-    go false b h = absurd (none j (rw (silent-samples n s b) at h))
-      where
-        none : (j : ℕ) → j < 0 → ⊥
-        none j h = omega arith
+        rw (sounds-samples n s b) (samples-number n (s .chip .audio) (known-audio s k) j (rw (sounds-samples n s b) at h))
+    go false b h = absurd (omega (arith, rw (silent-samples n s b) at h))

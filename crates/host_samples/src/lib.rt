@@ -52,7 +52,8 @@ fn at_most(room: usize, places: usize) -> usize
 // A run with room for a sample in each 4 of so many bytes, into a buffer that holds all that it can make.
 pub fn run_into(s: State, n: u64, bytes: usize, buf: &mut [f32]) -> Ran
     requires { ⌜ Known s × HoldsRun s n (length (now buf)) ⌝ }
-    ensures { λ r. ⌜ (r ≡ ranOf (runIn s n (bytes / 4) (now (buf .entry)))) × (now (buf .exit) ≡ runIn s n (bytes / 4) (now (buf .entry)) .samples) ⌝ }
+    ensures { λ r. ⌜ (r ≡ ranOf (runIn s n (bytes / 4) (now (buf .entry))))
+        × (now (buf .exit) ≡ runIn s n (bytes / 4) (now (buf .entry)) .samples) ⌝ }
 {
     let places = at_most(bytes / 4, buf.len());
     run_known(s, n, &mut buf[..places])

@@ -28,12 +28,13 @@ use Rattle.thm_machine.specs.Calls.{cpuWrite as callWrite}
 use Rattle.thm_machine.specs.Board.{otherGives}
 use Rattle.thm_steps.proofs.Chip.{Keeps, after-read-keeps, reset-keeps}
 use Rattle.thm_range.proofs.Calls.{other-fits}
-use Rattle.host_state.specs.HostState.{Gives, unaltered, resetGives, readGives, writeGives, writeOn, shortRun, shortSamples}
+use Rattle.host_state.specs.HostState.{Gives, unaltered, resetGives, readGives, writeGives, shortRun, shortSamples}
 
 -- ---- a call on a state, by the number q that it answered: refused, or it left g, which is what the definition gives
 
 pub record Called (cs : List Check) (img lent : List ℕ) (given g : Gives) (q : ℕ) : Type 0 where
   pub none : q ≡ 0 → firstOf cs ≡ 0
+  pub some : (q ≡ 0 → ⊥) → firstOf cs ≡ 0 → ⊥
   pub refused : (q ≡ 0 → ⊥) → unaltered img lent q ≡ unlessRefused cs (unaltered img lent) given
   pub accepted : q ≡ 0 → g ≡ unlessRefused cs (unaltered img lent) given
 
@@ -41,6 +42,7 @@ pub called : (cs : List Check) (img lent : List ℕ) (given g : Gives) (q : ℕ)
 called cs img lent given g q is same =
     record {
       none = λ z. sym is ∙ z;
+      some = λ h e. h (is ∙ e);
       refused = λ h. ap (unaltered img lent) is ∙ sym (refused-is cs (unaltered img lent) given (λ e. h (is ∙ e)));
       accepted = λ z. same ∙ sym (accepted-is cs (unaltered img lent) given (sym is ∙ z));
     }
@@ -69,7 +71,8 @@ unfolding cpuRead
 read-called s img arena addr r e =
     let refusal : ByteRead → ℕ = λ x. x .refusal in
     called _ img arena _ _ _
-    (ap refusal e ∙ number-is (cpuChecks s (length arena) addr) (λ q. record { refusal = q; byte = 0; state = s }) _ refusal refl (λ q. refl))
+    (ap refusal e
+    ∙ number-is (cpuChecks s (length arena) addr) (λ q. record { refusal = q; byte = 0; state = s }) _ refusal refl (λ q. refl))
     (ap (λ (x : ByteRead). record { word = x .byte * 2 ^ 8; image = imageOf (x .state); lent = arena }) e)
 
 abbrev pub writeLeft : Written → List ℕ → Gives
@@ -87,15 +90,11 @@ write-called s img arena addr v r e =
     called _ img arena _ _ _ (ap refusal e ∙ number-is (cpuChecks s (length arena) addr) (refusedWrite s) _ refusal refl (λ q. refl))
     (ap (λ (x : Written). writeLeft x (cpuWriteArena s arena addr v)) e)
 
--- the arena after a write, refused or not
-pub write-lent : (s : State) (img arena : List ℕ) (addr v : ℕ) → cpuWriteArena s arena addr v ≡ writeOn s img arena addr v .lent
+-- a refused write leaves the arena
+pub write-kept : (s : State) (arena : List ℕ) (addr v : ℕ) → (firstOf (cpuChecks s (length arena) addr) ≡ 0 → ⊥)
+    → cpuWriteArena s arena addr v ≡ arena
 unfolding cpuWriteArena
-write-lent s img arena addr v = go (eqb (firstOf (cpuChecks s (length arena) addr)) 0) refl
-  where
-    go : (t : Bool) → eqb (firstOf (cpuChecks s (length arena) addr)) 0 ≡ t
-        → cpuWriteArena s arena addr v ≡ writeOn s img arena addr v .lent
-    go true e = rw e
-    go false e = rw e
+write-kept s arena addr v h = refused-is (cpuChecks s (length arena) addr) (λ q. arena) _ h
 
 -- what two of them that are equal have, part by part
 abbrev pub word-of : {a b : Gives} → a ≡ b → a .word ≡ b .word

@@ -49,18 +49,18 @@ demand-1-run s n lent = refused-run s n lent (firstOf (runChecks s n (length len
 -- of the C calls: the number is the whole word, and image, arena and sample bytes stay
 pub demand-1-load : (img arena : List ℕ) (mapper sub flags known : ℕ) (sizes : MemoryLayout)
     → let cs = imageCheck (length img) ∷ loadChecks mapper sizes (length arena) in
-      (firstOf cs ≡ 0 → ⊥) → hostLoad img arena mapper sub flags known sizes ≡ unaltered img arena (firstOf cs)
+    (firstOf cs ≡ 0 → ⊥) → hostLoad img arena mapper sub flags known sizes ≡ unaltered img arena (firstOf cs)
 demand-1-load = Host.load-refused
 
 pub demand-1-on-image : (img lent : List ℕ) (addr v kind n : ℕ) → let s = stateIn img in
     ((firstOf (onImage img (kindCheck kind ∷ [])) ≡ 0 → ⊥)
-      → hostReset img kind ≡ unaltered img [] (firstOf (onImage img (kindCheck kind ∷ []))))
+    → hostReset img kind ≡ unaltered img [] (firstOf (onImage img (kindCheck kind ∷ []))))
     × ((firstOf (onImage img (cpuOwn s lent addr)) ≡ 0 → ⊥)
-      → hostRead img lent addr ≡ unaltered img lent (firstOf (onImage img (cpuOwn s lent addr))))
+    → hostRead img lent addr ≡ unaltered img lent (firstOf (onImage img (cpuOwn s lent addr))))
     × ((firstOf (onImage img (cpuOwn s lent addr)) ≡ 0 → ⊥)
-      → hostWrite img lent addr v ≡ unaltered img lent (firstOf (onImage img (cpuOwn s lent addr))))
+    → hostWrite img lent addr v ≡ unaltered img lent (firstOf (onImage img (cpuOwn s lent addr))))
     × ((firstOf (onImage img (runOwn s lent n)) ≡ 0 → ⊥)
-      → hostRun img lent n ≡ unaltered img lent (firstOf (onImage img (runOwn s lent n))))
+    → hostRun img lent n ≡ unaltered img lent (firstOf (onImage img (runOwn s lent n))))
 demand-1-on-image img lent addr v kind n =
     (Host.reset-refused img kind, Host.read-refused img lent addr, Host.write-refused img lent addr v, Host.run-refused img lent n)
 

@@ -63,8 +63,8 @@ put-state-requires : tie.Need-put-state-requires
 put-state-requires c κs =
     let done = c .before .before in let l = load done in let t = start l in let a = t .args in (
       l .before .before .if1 .left,
-      load-known (a .mapper) (a .submapper) (a .flags) (yes (a .in-database)) (sizes t) (a .arena .now) _ (l .load .ensures .0) (search needs)
-          (done .if2 .left),
+      load-known (a .mapper) (a .submapper) (a .flags) (yes (a .in-database)) (sizes t) (a .arena .now) _ (l .load .ensures .0)
+          (search needs) (done .if2 .left),
     )
 
 returns-3 : tie.Need-returns-3

@@ -8,15 +8,13 @@ use Rattle.host.proofs.Laws.{OnImage, on-image}
 use Rattle.host.proofs.namco163_read.Statement.{statement}
 use Rattle.host.proofs.namco163_read.Tie as tie
 
--- from the image read the start, and from its accepted answer the image read
+-- from the image read the start
 abbrev start : tie.After-read-image → tie.Start
 start c = c .before .before .before .before
 
-abbrev read : tie.Else1 → tie.After-read-image
-read c = c .before .before
-
 call : (c : tie.After-read-image) → let a = start c .args in
-    OnImage (a .image .now) (a .arena .now) (λ s. cpuOwn s (a .arena .now) (a .addr)) (λ s. readGives s (a .arena .now) (a .addr)) (c .read-image .result)
+    OnImage (a .image .now) (a .arena .now) (λ s. cpuOwn s (a .arena .now) (a .addr))
+    (λ s. readGives s (a .arena .now) (a .addr)) (c .read-image .result)
 call c = on-image _ _ _ _ _ (c .read-image .ensures)
 
 returns : tie.Need-returns
@@ -28,7 +26,7 @@ returns c =
 -- the lent bytes are the image of the state that was read
 read-on-requires : tie.Need-read-on-requires
 read-on-requires c κs =
-    let accepted = c .before .before in let r = read accepted in let lent = r .before .before .before in
+    let accepted = c .before .before in let r = accepted .before .before in let lent = r .before .before .before in
     let z = accepted .if1 .left in let g = call r .good z in
     (g .0, call r .image (λ i. omega (arith, lent .slice-known .given i)) z, g .1)
 
@@ -36,7 +34,7 @@ returns-2 : tie.Need-returns-2
 unfolding hostRead
 returns-2 c =
     let on = c .before .before in let accepted = on .before .before .before in
-    two-of (on .read-on .ensures) (call (read accepted) .goes-on (accepted .if1 .left))
+    two-of (on .read-on .ensures) (call (accepted .before .before) .goes-on (accepted .if1 .left))
 
 pub namco163-read-spec : {M : Type 1} → statement M
 namco163-read-spec =

@@ -9,12 +9,9 @@ use Rattle.host.proofs.Laws.{OnImage, on-image}
 use Rattle.host.proofs.namco163_reset.Statement.{statement}
 use Rattle.host.proofs.namco163_reset.Tie as tie
 
--- from the image read the start, and from its accepted answer the image read
+-- from the image read the start
 abbrev start : tie.After-read-image → tie.Start
 start c = c .before .before .before
-
-abbrev read : tie.Else1 → tie.After-read-image
-read c = c .before .before
 
 call : (c : tie.After-read-image) → let a = start c .args in
     OnImage (a .image .now) [] (λ s. kindCheck (a .kind) ∷ []) (λ s. resetGives s (a .kind)) (c .read-image .result)
@@ -27,13 +24,13 @@ returns c =
     let e = call (refused .before .before) .refused (refused .if1 .taken) in (word-of e, image-of e)
 
 reset-on-requires : tie.Need-reset-on-requires
-reset-on-requires c κs = let accepted = c .before .before in call (read accepted) .good (accepted .if1 .left) .0
+reset-on-requires c κs = let accepted = c .before .before in call (accepted .before .before) .good (accepted .if1 .left) .0
 
 returns-2 : tie.Need-returns-2
 unfolding hostReset
 returns-2 c =
     let on = c .before .before in let accepted = on .before .before .before in
-    two-of (on .reset-on .ensures) (call (read accepted) .goes-on (accepted .if1 .left))
+    two-of (on .reset-on .ensures) (call (accepted .before .before) .goes-on (accepted .if1 .left))
 
 pub namco163-reset-spec : {M : Type 1} → statement M
 namco163-reset-spec =

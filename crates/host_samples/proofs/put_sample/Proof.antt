@@ -8,15 +8,6 @@ use borrow.Author.Needs.{needs}
 use Rattle.host_samples.proofs.put_sample.Statement.{statement}
 use Rattle.host_samples.proofs.put_sample.Tie as tie
 
-slice-write-bytes-2 : tie.Need-slice-write-bytes-2
-slice-write-bytes-2 c = simp length-set (omega arith)
-
-slice-write-bytes-3 : tie.Need-slice-write-bytes-3
-slice-write-bytes-3 c = simp length-set (omega arith)
-
-slice-write-bytes-4 : tie.Need-slice-write-bytes-4
-slice-write-bytes-4 c = simp length-set (omega arith)
-
 returns : tie.Need-returns
 returns c =
     let x1 : c .args .at + 1 ≡ suc (c .args .at) = omega arith in
@@ -33,12 +24,12 @@ put-sample-spec =
     (λ c. search needs)  -- slice-write-bytes
     (λ c. search needs)  -- cast-bytes-2
     (λ c. search needs)  -- add-bytes
-    slice-write-bytes-2
+    (λ c. simp length-set (omega arith))  -- slice-write-bytes-2
     (λ c. search needs)  -- cast-bytes-3
     (λ c. search needs)  -- add-bytes-2
-    slice-write-bytes-3
+    (λ c. simp length-set (omega arith))  -- slice-write-bytes-3
     (λ c. search needs)  -- cast-bytes-4
     (λ c. search needs)  -- add-bytes-3
-    slice-write-bytes-4
+    (λ c. simp length-set (omega arith))  -- slice-write-bytes-4
     (λ c. search needs)  -- same-length
     returns)

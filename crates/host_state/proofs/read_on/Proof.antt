@@ -7,12 +7,9 @@ use Rattle.host_state.proofs.Laws.{ReadCalled, read-called, word-of, im
 use Rattle.host_state.proofs.read_on.Statement.{statement}
 use Rattle.host_state.proofs.read_on.Tie as tie
 
--- from the CPU read the start, and from the accepted answer the CPU read
+-- from the CPU read the start
 abbrev start : tie.After-cpu-read-known → tie.Start
 start c = c .before .before .before
-
-abbrev read : tie.Else1 → tie.After-cpu-read-known
-read c = c .before .before
 
 cpu-read-known-requires : tie.Need-cpu-read-known-requires
 cpu-read-known-requires c κs = let t = c .before .before in known-passes (t .args .s) (t .pre .2)
@@ -28,7 +25,7 @@ returns c =
 
 returns-2 : tie.Need-returns-2
 returns-2 c =
-    let accepted = c .before .before in let r = read accepted in let t = start r in let a = t .args in
+    let accepted = c .before .before in let r = accepted .before .before in let t = start r in let a = t .args in
     let z = accepted .if1 .left in
     let e = call r .accepted z in
     let still = still-read (a .s) (a .arena .now) (a .addr) _ (r .cpu-read-known .ensures) (c .if2 .taken) (call r .none z) in
@@ -36,13 +33,14 @@ returns-2 c =
 
 put-state-requires : tie.Need-put-state-requires
 put-state-requires c κs =
-    let port = c .before .before in let r = read (port .before .before) in let t = start r in let a = t .args in
+    let port = c .before .before in let accepted = port .before .before in let r = accepted .before .before in
+    let t = start r in let a = t .args in
     (t .pre .0, known-read (a .s) (a .arena .now) (a .addr) _ (r .cpu-read-known .ensures) (t .pre .2))
 
 returns-3 : tie.Need-returns-3
 returns-3 c =
     let put = c .before .before in let port = put .before .before .before in let accepted = port .before .before in
-    let e = call (read accepted) .accepted (accepted .if1 .left) in (word-of e, put .put-state .ensures ∙ image-of e)
+    let e = call (accepted .before .before) .accepted (accepted .if1 .left) in (word-of e, put .put-state .ensures ∙ image-of e)
 
 pub read-on-spec : {M : Type 1} → statement M
 read-on-spec =

@@ -5,12 +5,12 @@ use borrow.Author.Needs.{needs}
 use Rattle.board_state.proofs.Range.{known-passes}
 use Rattle.call_cpu.specs.declared.calls.Written.{Written}
 use Rattle.thm_range.proofs.Calls.{cpu-write-mask}
-use Rattle.host_state.proofs.Laws.{WriteCalled, write-called, write-lent, word-of, image-of, lent-of, known-write}
+use Rattle.host_state.proofs.Laws.{WriteCalled, write-called, write-kept, word-of, image-of, lent-of, known-write}
 use Rattle.host_state.proofs.write_on.Statement.{statement}
 use Rattle.host_state.proofs.write_on.Tie as tie
 
--- from the CPU write where the lent arena is known, one step behind the start; from the accepted answer the CPU write; and from the image
--- put the accepted answer
+-- from the CPU write where the lent arena is known, one step behind the start; from the accepted answer the CPU write; and from
+-- the image put the accepted answer
 abbrev lent : tie.After-cpu-write-known → tie.After-slice-known
 lent c = c .before .before .before
 
@@ -34,9 +34,10 @@ returns c =
     let refused = c .before in
     let w = refused .before .before .before .before in
     let a = lent w .before .args in
-    let e = call w .refused (refused .if1 .taken) in
-    let kept = write-lent (a .s) (a .image .now) (a .arena .now) (a .addr) (a .val) in
-    (word-of e, (image-of e, w .cpu-write-known .ensures .1 ∙ kept))
+    let h = refused .if1 .taken in
+    let e = call w .refused h in
+    let kept = write-kept (a .s) (a .arena .now) (a .addr) (a .val) (call w .some h) in
+    (word-of e, (image-of e, w .cpu-write-known .ensures .1 ∙ kept ∙ lent-of e))
 
 put-state-requires : tie.Need-put-state-requires
 put-state-requires c κs =
