@@ -11,8 +11,8 @@ use Rattle.call_refusals.specs.Refusals.{Check, firstOf, kindCheck, loadChecks}
 use Rattle.call_refusals.proofs.Laws.{refused-is}
 use Rattle.image_write.specs.Writing.{imageCheck}
 use Rattle.thm_range.proofs.Decided.{Decided, decided}
-use Rattle.host_state.specs.HostState.{unaltered, runOwn}
-use Rattle.host.specs.Host.{onImage, stateIn, cpuOwn, hostLoad, hostReset, hostRead, hostWrite, hostRun}
+use Rattle.host_state.specs.HostState.{unaltered, resetGives, readGives, writeGives, runOwn, runGives}
+use Rattle.host.specs.Host.{onImage, stateIn, cpuOwn, loadGives, hostLoad, hostReset, hostRead, hostWrite, hostRun}
 
 -- 1, 4, 5, 6, 7
 pub load-decided : (img arena : List ℕ) (mapper : ℕ) (sizes : MemoryLayout)
@@ -40,24 +40,24 @@ module _ (img arena : List ℕ) (mapper sub flags known : ℕ) (sizes : MemoryLa
   pub load-refused : let cs = imageCheck (length img) ∷ loadChecks mapper sizes (length arena) in
       Refused cs → hostLoad img arena mapper sub flags known sizes ≡ unaltered img arena (firstOf cs)
   unfolding hostLoad
-  load-refused = refused-is _ _ _
+  load-refused = refused-is _ (unaltered img arena) (loadGives arena mapper sub flags known sizes)
 
 pub reset-refused : (img : List ℕ) (kind : ℕ) → let cs = onImage img (kindCheck kind ∷ []) in
     Refused cs → hostReset img kind ≡ unaltered img [] (firstOf cs)
 unfolding hostReset
-reset-refused img kind = refused-is _ _ _
+reset-refused img kind = refused-is _ (unaltered img []) (resetGives (stateIn img) kind)
 
 pub read-refused : (img arena : List ℕ) (addr : ℕ) → let cs = onImage img (cpuOwn (stateIn img) arena addr) in
     Refused cs → hostRead img arena addr ≡ unaltered img arena (firstOf cs)
 unfolding hostRead
-read-refused img arena addr = refused-is _ _ _
+read-refused img arena addr = refused-is _ (unaltered img arena) (readGives (stateIn img) arena addr)
 
 pub write-refused : (img arena : List ℕ) (addr v : ℕ) → let cs = onImage img (cpuOwn (stateIn img) arena addr) in
     Refused cs → hostWrite img arena addr v ≡ unaltered img arena (firstOf cs)
 unfolding hostWrite
-write-refused img arena addr v = refused-is _ _ _
+write-refused img arena addr v = refused-is _ (unaltered img arena) (writeGives (stateIn img) arena addr v)
 
 pub run-refused : (img samples : List ℕ) (n : ℕ) → let cs = onImage img (runOwn (stateIn img) samples n) in
     Refused cs → hostRun img samples n ≡ unaltered img samples (firstOf cs)
 unfolding hostRun
-run-refused img samples n = refused-is _ _ _
+run-refused img samples n = refused-is _ (unaltered img samples) (runGives (stateIn img) samples n)

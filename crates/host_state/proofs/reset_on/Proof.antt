@@ -1,8 +1,11 @@
 -- `reset_on` meets its contract: refused, and accepted.
 use mathlib.Core.Path.{_∙_}
 use borrow.Author.Needs.{needs}
+use borrow.Author.Tests.{not-false}
 use Rattle.board_state.proofs.Range.{known}
-use Rattle.call_refusals.proofs.Laws.{reset-good}
+use Rattle.board_state.specs.State.{inRange}
+use Rattle.call_refusals.specs.Refusals.{resetChecks}
+use Rattle.call_refusals.proofs.Laws.{accepted-none}
 use Rattle.host_state.proofs.Laws.{ResetCalled, reset-called, word-of, image-of, known-reset}
 use Rattle.host_state.proofs.reset_on.Statement.{statement}
 use Rattle.host_state.proofs.reset_on.Tie as tie
@@ -22,7 +25,8 @@ returns c =
 put-state-requires : tie.Need-put-state-requires
 put-state-requires c κs =
     let accepted = c .before .before in let r = accepted .before .before in let t = start r in let a = t .args in
-    let k = known (a .s) _ (t .good .0) (reset-good (a .s) (a .kind) (call r .none (accepted .if1 .left))) in
+    let passed = accepted-none (resetChecks (a .s) (a .kind)) (search needs) (call r .none (accepted .if1 .left)) in
+    let k = known (a .s) _ (t .good .0) (not-false (inRange (a .s)) (passed .0)) in
     (t .pre, known-reset (a .s) (a .kind) _ (r .reset .ensures) k)
 
 returns-2 : tie.Need-returns-2
