@@ -28,5 +28,7 @@ setNametables v l = set (set (set (set l 8 v) 9 v) 10 v) 11 v
 unfoldable pub resetChip : Namco163 → ResetKind → Namco163
 resetChip n k =
     withAudio
-    (withWritten (withSlots (withRegs n (resetRegs k (n .regs))) (setNametables true (n .«nt_bank_enable»)) (setNametables 0 (n .«chr_banks»))) false)
+    (withWritten
+    (withSlots (withRegs n (resetRegs k (n .regs))) (setNametables true (n .«nt_bank_enable»)) (setNametables 0 (n .«chr_banks»)))
+    false)
     fresh

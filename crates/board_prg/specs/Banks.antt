@@ -32,7 +32,9 @@ writeBank n i v = withPrgBanks n (set (n .«prg_banks») i (v % 64))
 
 -- what bits 6..7 of E000 say to the board: a 340's mirroring, a 163's sound
 unfoldable pub highBitsE000 : Namco163 → ℕ → ℕ → Namco163
-highBitsE000 n a v = cond (is340 (n .board)) (withMirroring n (mirroringE000 v)) (cond (is163 (n .board)) (withAudio n (written (n .audio) a v)) n)
+highBitsE000 n a v =
+    cond (is340 (n .board)) (withMirroring n (mirroringE000 v))
+    (cond (is163 (n .board)) (withAudio n (written (n .audio) a v)) n)
 
 -- E000..E7FF: the bank at 8000, between detection and the high bits
 unfoldable pub writeE000 : Namco163 → ℕ → ℕ → Namco163

@@ -24,7 +24,8 @@ use Rattle.sound.proofs.audio.Typed.{typed as audio-typed}
 use Rattle.board_chip.specs.declared.namco163.Namco163.{Namco163}
 use Rattle.board_state.specs.declared.State.{State}
 use Rattle.board_state.specs.None.{noState}
-use Rattle.board_state.specs.State.{mapperOk, MapperIn, bankTest, BanksIn, chipOk, ChipInRange, ChipTyped, inRange, InRange, Typed, Known}
+use Rattle.board_state.specs.State.{mapperOk, MapperIn, bankTest, BanksIn, chipOk, ChipInRange, ChipTyped, inRange, InRange, Typed}
+use Rattle.board_state.specs.State.{Known}
 use Rattle.board_state.proofs.State as Row
 
 -- ---- the mapper and the banks

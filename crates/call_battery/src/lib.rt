@@ -64,7 +64,8 @@ fn get_battery(arena: &[u8], at: usize) -> [u8; Audio::RAM_SIZE]
 // Copies the sound RAM into the arena's battery part, which belongs behind PRG-RAM in a save file. The chip reads that RAM several times
 // for each sample and so keeps it; it is copied when a host saves. Answers the refusal number.
 pub fn sync_battery(s: State, arena: &mut [u8]) -> u8
-    ensures { λ r. ⌜ (r ≡ firstOf (batteryChecks s (length (now (arena .entry))))) × (now (arena .exit) ≡ syncArena s (now (arena .entry))) ⌝ }
+    ensures { λ r. ⌜ (r ≡ firstOf (batteryChecks s (length (now (arena .entry)))))
+        × (now (arena .exit) ≡ syncArena s (now (arena .entry))) ⌝ }
 {
     let q = battery_refusal(s, arena.len());
     if q != 0 {

@@ -146,7 +146,8 @@ fn refused_write(s: State, q: u8) -> Written
 // Of a state that is known to be in range.
 pub fn cpu_write_known(s: State, arena: &mut [u8], addr: u16, val: u8) -> Written
     requires { ⌜ inRange s ≡ true ⌝ }
-    ensures { λ r. ⌜ (r ≡ cpuWrite s (now (arena .entry)) addr val) × (now (arena .exit) ≡ cpuWriteArena s (now (arena .entry)) addr val) ⌝ }
+    ensures { λ r. ⌜ (r ≡ cpuWrite s (now (arena .entry)) addr val)
+        × (now (arena .exit) ≡ cpuWriteArena s (now (arena .entry)) addr val) ⌝ }
 {
     let q = cpu_refusal_known(s, arena.len(), addr);
     if q != 0 {
@@ -165,7 +166,8 @@ pub fn cpu_write_known(s: State, arena: &mut [u8], addr: u16, val: u8) -> Writte
 }
 
 pub fn cpu_write(s: State, arena: &mut [u8], addr: u16, val: u8) -> Written
-    ensures { λ r. ⌜ (r ≡ cpuWrite s (now (arena .entry)) addr val) × (now (arena .exit) ≡ cpuWriteArena s (now (arena .entry)) addr val) ⌝ }
+    ensures { λ r. ⌜ (r ≡ cpuWrite s (now (arena .entry)) addr val)
+        × (now (arena .exit) ≡ cpuWriteArena s (now (arena .entry)) addr val) ⌝ }
 {
     if in_range(s) {
         return cpu_write_known(s, arena, addr, val);

@@ -65,7 +65,8 @@ pub fn load(
     known: bool,
     sizes: MemoryLayout,
 ) -> Loaded
-    ensures { λ r. ⌜ (r ≡ loadAnswer mapper submapper flags known sizes (length (now (arena .entry)))) × (now (arena .exit) ≡ loadArena mapper sizes (now (arena .entry))) ⌝ }
+    ensures { λ r. ⌜ (r ≡ loadAnswer mapper submapper flags known sizes (length (now (arena .entry))))
+        × (now (arena .exit) ≡ loadArena mapper sizes (now (arena .entry))) ⌝ }
 {
     let q = load_refusal(mapper, sizes, arena.len());
     if q != 0 {

@@ -19,7 +19,8 @@ use Rattle.memory_bytes.specs.Bytes.{Backed}
 use Rattle.board_state.specs.declared.State.{State}
 use Rattle.board_state.specs.State.{inRange}
 use Rattle.board_state.proofs.Range.{memory-good}
-use Rattle.call_refusals.specs.Refusals.{Check, firstOf, unlessRefused, stateChecks, resetChecks, arenaChecks, cpuChecks, fillChecks, batteryChecks}
+use Rattle.call_refusals.specs.Refusals.{Check, firstOf, unlessRefused, stateChecks, resetChecks, arenaChecks, cpuChecks, fillChecks}
+use Rattle.call_refusals.specs.Refusals.{batteryChecks}
 
 -- ---- any list of checks
 

@@ -92,4 +92,5 @@ abbrev pub batteryChecks : State → ℕ → List Check
 batteryChecks s len = stateCheck s ∷ arenaCheck (arenaLen (s .memory .layout)) len ∷ batteryCheck s ∷ []
 
 abbrev pub loadChecks : ℕ → MemoryLayout → ℕ → List Check
-loadChecks mapper sizes len = mapperCheck mapper ∷ sizesCheck sizes ∷ reserveCheck mapper sizes ∷ arenaCheck (arenaLen (layoutOf sizes)) len ∷ []
+loadChecks mapper sizes len =
+    mapperCheck mapper ∷ sizesCheck sizes ∷ reserveCheck mapper sizes ∷ arenaCheck (arenaLen (layoutOf sizes)) len ∷ []

@@ -9,7 +9,8 @@ ghost use mathlib.Core.Path.{_≡_};
 ghost use mathlib.Core.Bool.{true, _&&_};
 ghost use lib.Dec.{eqb};
 ghost use Rattle.board_state.specs.State.{inRange};
-ghost use Rattle.call_refusals.specs.Refusals.{firstOf, stateChecks, resetChecks, arenaChecks, cpuChecks, fillChecks, batteryChecks, loadChecks};
+ghost use Rattle.call_refusals.specs.Refusals.{firstOf, stateChecks, resetChecks, arenaChecks, cpuChecks, fillChecks, batteryChecks};
+ghost use Rattle.call_refusals.specs.Refusals.{loadChecks};
 
 pub fn state_refusal(s: State) -> u8
     ensures { λ r. ⌜ r ≡ firstOf (stateChecks s) ⌝ }

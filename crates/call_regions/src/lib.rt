@@ -38,7 +38,8 @@ pub fn chr_read(s: State, arena: &[u8], addr: u16) -> Peeked
 
 // Answers the refusal number.
 pub fn chr_write(s: State, arena: &mut [u8], addr: u16, val: u8) -> u8
-    ensures { λ r. ⌜ (r ≡ firstOf (arenaChecks s (length (now (arena .entry))))) × (now (arena .exit) ≡ chrWriteArena s (now (arena .entry)) addr val) ⌝ }
+    ensures { λ r. ⌜ (r ≡ firstOf (arenaChecks s (length (now (arena .entry)))))
+        × (now (arena .exit) ≡ chrWriteArena s (now (arena .entry)) addr val) ⌝ }
 {
     let q = arena_refusal(s, arena.len());
     if q != 0 {
@@ -51,7 +52,8 @@ pub fn chr_write(s: State, arena: &mut [u8], addr: u16, val: u8) -> u8
 
 // Copies bytes to a region's start. Answers the refusal number.
 pub fn fill(s: State, arena: &mut [u8], src: Src, bytes: &[u8]) -> u8
-    ensures { λ r. ⌜ (r ≡ firstOf (fillChecks s (length (now (arena .entry))) src (length (now (bytes .entry))))) × (now (arena .exit) ≡ fillArena s (now (arena .entry)) src (now (bytes .entry))) ⌝ }
+    ensures { λ r. ⌜ (r ≡ firstOf (fillChecks s (length (now (arena .entry))) src (length (now (bytes .entry)))))
+        × (now (arena .exit) ≡ fillArena s (now (arena .entry)) src (now (bytes .entry))) ⌝ }
 {
     let q = fill_refusal(s, arena.len(), src, bytes.len());
     if q != 0 {
@@ -81,7 +83,8 @@ pub fn region_peek(s: State, arena: &[u8], src: Src, offset: u64) -> Peeked
 
 // Answers the refusal number.
 pub fn region_write(s: State, arena: &mut [u8], src: Src, offset: u64, val: u8) -> u8
-    ensures { λ r. ⌜ (r ≡ firstOf (arenaChecks s (length (now (arena .entry))))) × (now (arena .exit) ≡ regionWriteArena s (now (arena .entry)) src offset val) ⌝ }
+    ensures { λ r. ⌜ (r ≡ firstOf (arenaChecks s (length (now (arena .entry)))))
+        × (now (arena .exit) ≡ regionWriteArena s (now (arena .entry)) src offset val) ⌝ }
 {
     let q = arena_refusal(s, arena.len());
     if q != 0 {

@@ -69,7 +69,8 @@ fn run_sound(audio: Audio, n: u32, samples: &mut [f32]) -> SoundRan
 
 fn accepted_run(s: State, n: u32, samples: &mut [f32]) -> Ran
     requires { ⌜ firstOf (runChecks s n (length (now samples))) ≡ 0 ⌝ }
-    ensures { λ r. ⌜ (r ≡ ranOf (runGave s n (now (samples .entry)))) × (now (samples .exit) ≡ runGave s n (now (samples .entry)) .samples) ⌝ }
+    ensures { λ r. ⌜ (r ≡ ranOf (runGave s n (now (samples .entry))))
+        × (now (samples .exit) ≡ runGave s n (now (samples .entry)) .samples) ⌝ }
 {
     let mut chip = s.chip;
     let regs = chip.regs;
@@ -103,7 +104,8 @@ fn accepted_run(s: State, n: u32, samples: &mut [f32]) -> Ran
 // Of a state that is known to be in range.
 pub fn run_known(s: State, n: u64, samples: &mut [f32]) -> Ran
     requires { ⌜ inRange s ≡ true ⌝ }
-    ensures { λ r. ⌜ (r ≡ ranOf (runGave s n (now (samples .entry)))) × (now (samples .exit) ≡ runGave s n (now (samples .entry)) .samples) ⌝ }
+    ensures { λ r. ⌜ (r ≡ ranOf (runGave s n (now (samples .entry))))
+        × (now (samples .exit) ≡ runGave s n (now (samples .entry)) .samples) ⌝ }
 {
     let q = run_refusal_known(s, n, samples.len());
     if q != 0 {
@@ -118,7 +120,8 @@ pub fn run_known(s: State, n: u64, samples: &mut [f32]) -> Ran
 }
 
 pub fn run(s: State, n: u64, samples: &mut [f32]) -> Ran
-    ensures { λ r. ⌜ (r ≡ ranOf (runGave s n (now (samples .entry)))) × (now (samples .exit) ≡ runGave s n (now (samples .entry)) .samples) ⌝ }
+    ensures { λ r. ⌜ (r ≡ ranOf (runGave s n (now (samples .entry))))
+        × (now (samples .exit) ≡ runGave s n (now (samples .entry)) .samples) ⌝ }
 {
     if in_range(s) {
         return run_known(s, n, samples);

@@ -5,12 +5,14 @@ use mathlib.Core.List.{List, [], _∷_}
 use Rattle.cut.specs.Calls.{Call, run, other, RunGave, Board, Point, from, afterRun, noted}
 use Rattle.cut.specs.Always.{AllTyped, NeverRefused, Kept, Never}
 
-after-state : {State Sample : Type 0} (Holds : State → Type 0) (q n : ℕ) (g : RunGave State Sample) (p : Point State Sample) → Holds (g .state)
+after-state : {State Sample : Type 0} (Holds : State → Type 0) (q n : ℕ) (g : RunGave State Sample) (p : Point State Sample)
+    → Holds (g .state)
     → Holds (afterRun q n g p .state)
 after-state Holds zero n g p h = h
 after-state Holds (suc q) n g p h = h
 
-module _ {State Sample Arg Answer : Type 0} (board : Board State Sample Arg Answer) (Typed : Call Sample Arg → Type 0) (Holds : State → Type 0)
+module _ {State Sample Arg Answer : Type 0} (board : Board State Sample Arg Answer) (Typed : Call Sample Arg → Type 0)
+    (Holds : State → Type 0)
     (k : Kept board Typed Holds) where
   pub always : (calls : List (Call Sample Arg)) (p : Point State Sample) → AllTyped Typed calls → Holds (p .state)
       → Holds (noted board calls p .state)

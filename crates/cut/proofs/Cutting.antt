@@ -5,7 +5,8 @@ use mathlib.Core.List.{List, [], _∷_, _++_}
 use native.Mathlib.Nat.{zero-add}
 use lib.ListN.{length, drop}
 use lib.Seq.{take-append-seam}
-use Rattle.cut.specs.Calls.{Call, run, other, Board, Trace, last, then, Observed, withRun, Point, from, start, afterRun, noted, Outline, outline}
+use Rattle.cut.specs.Calls.{Call, run, other, Board, Trace, last, then, Observed, withRun, Point, from, start, afterRun, noted}
+use Rattle.cut.specs.Calls.{Outline, outline}
 use Rattle.cut.specs.Machine.{Paper, ticks, machineRun, otherOf, machine}
 use Rattle.cut.specs.Contract.{runBy, Keeps, OneRise}
 use Rattle.cut.specs.Demand3.{observed, AsMachine, CutBlind}

@@ -6,7 +6,8 @@ use mathlib.Core.Path.{_≡_, refl, sym, ap, _∙_}
 use mathlib.Core.List.{List, [], _∷_}
 use native.Mathlib.Omega.{arith}
 use lib.ListN.{length, take}
-use Rattle.cut.specs.Calls.{run, other, RunGave, Reply, refused, Board, Stretch, Trace, last, then, Observed, Point, start, riseAfter, afterRun, noted}
+use Rattle.cut.specs.Calls.{run, other, RunGave, Reply, refused, Board, Stretch, Trace, last, then, Observed, Point, start, riseAfter}
+use Rattle.cut.specs.Calls.{afterRun, noted}
 use Rattle.cut.specs.Machine.{Paper, ticks, machineRun, otherOf, machine}
 use Rattle.cut.specs.Demand3.{AsMachine}
 

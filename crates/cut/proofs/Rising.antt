@@ -60,7 +60,8 @@ module _ {State Sample : Type 0} (clock : State → Clocked State Sample) (c : C
   unfolding ticks
   stays-clear zero n p h a = rw add-zero a
   stays-clear (suc m) n p {rs} h a =
-      let t = one-tick (0x8000 + (n + m)) false false (ticks clock m p) (quiet-on (n + m) (omega arith)) (stays-clear m n p (omega arith) a) in
+      let t = one-tick (0x8000 + (n + m)) false false (ticks clock m p) (quiet-on (n + m) (omega arith))
+      (stays-clear m n p (omega arith) a) in
       rw add-suc (rw (next-on (n + m) (omega arith), append-nil rs) at t)
 
   -- the clock that raises the line
@@ -69,7 +70,8 @@ module _ {State Sample : Type 0} (clock : State → Clocked State Sample) (c : C
   unfolding ticks
   raises zero n p e h a = absurd (omega arith)
   raises (suc d) n p e h a =
-      let t = one-tick (0x8000 + (n + d)) false true (ticks clock d p) (rises-on (n + d) (omega arith)) (stays-clear d n p (omega arith) a) in
+      let t = one-tick (0x8000 + (n + d)) false true (ticks clock d p) (rises-on (n + d) (omega arith))
+      (stays-clear d n p (omega arith) a) in
       let top : 0x8000 + suc (n + d) ≡ 0xFFFF = omega arith in
       rw add-suc (rw (next-on (n + d) (omega arith), top, ticks-count clock d p) at t)
 

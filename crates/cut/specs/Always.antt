@@ -23,7 +23,8 @@ pub record NeverRefused {State Sample Arg Answer : Type 0} (q : ℕ) (o : Observ
   pub others : NoReply q (o .trace)
   pub runs : NoNumber q (o .refusals)
 
-module _ {State Sample Arg Answer : Type 0} (board : Board State Sample Arg Answer) (Typed : Call Sample Arg → Type 0) (Holds : State → Type 0) where
+module _ {State Sample Arg Answer : Type 0} (board : Board State Sample Arg Answer) (Typed : Call Sample Arg → Type 0)
+    (Holds : State → Type 0) where
   -- each call keeps it, refused ones too
   pub record Kept : Type 0 where
     pub run : (n : ℕ) (lent : List Sample) (s : State) → Typed (run n lent) → Holds s → Holds (board .run n lent s .state)

@@ -97,7 +97,8 @@ module _ {State Sample Arg Answer : Type 0} (board : Board State Sample Arg Answ
   unfoldable pub noted : List (Call Sample Arg) → Point State Sample → Observed State Sample Arg Answer
   noted [] p = record { trace = last (p .stretch); refusals = []; state = p .state }
   noted (run n lent ∷ calls) p = let g = board .run n lent (p .state) in withRun (g .refusal) (noted calls (afterRun (g .refusal) n g p))
-  noted (other a ∷ calls) p = let g = board .other a (p .state) in withOther (p .stretch) a (g .reply) (noted calls (from (g .state) (p .count)))
+  noted (other a ∷ calls) p = let g = board .other a (p .state) in
+      withOther (p .stretch) a (g .reply) (noted calls (from (g .state) (p .count)))
 
 -- A list's outline: its other calls with their arguments, in order, and the clocks of each stretch.
 pub data Outline (Arg : Type 0) : Type 0 where

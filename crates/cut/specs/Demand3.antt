@@ -36,11 +36,14 @@ module _ {State Sample Arg Answer : Type 0} (board : Board State Sample Arg Answ
   -- clocks." The list `first` leads from a load to such a counter. Of the calls after it no other call touches the counter or the line, and
   -- their accepted runs make `more` clocks. With fewer than 0x7FFF − n they note no rise and leave the line clear. Else they note one, at
   -- that clock, and the line is up.
-  pub record FirstRise (counter : State → ℕ) (line : State → Bool) (first rest : List (Call Sample Arg)) (s : State) (n more : ℕ) : Type 0 where
+  pub record FirstRise (counter : State → ℕ) (line : State → Bool) (first rest : List (Call Sample Arg)) (s : State)
+      (n more : ℕ) : Type 0 where
     pub early : more < 0x7FFF - n
-        → (allRises (observed (first ++ rest) s .trace) ≡ allRises (observed first s .trace)) × (line (observed (first ++ rest) s .state) ≡ false)
+        → (allRises (observed (first ++ rest) s .trace) ≡ allRises (observed first s .trace))
+        × (line (observed (first ++ rest) s .state) ≡ false)
     pub due : 0x7FFF - n ≤ more
-        → (allRises (observed (first ++ rest) s .trace) ≡ allRises (observed first s .trace) ++ (allClocks (observed first s .trace) + (0x7FFF - n)) ∷ [])
+        → (allRises (observed (first ++ rest) s .trace)
+        ≡ allRises (observed first s .trace) ++ (allClocks (observed first s .trace) + (0x7FFF - n)) ∷ [])
         × (line (observed (first ++ rest) s .state) ≡ true)
 
   abbrev pub RisesInTime : (State → ℕ) → (State → Bool) → Type 0

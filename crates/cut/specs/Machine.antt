@@ -69,4 +69,5 @@ module _ {State Sample Arg Answer : Type 0} (paper : Paper State Sample Arg Answ
   machine [] p = record { trace = last (p .stretch); refusals = []; state = p .state }
   machine (run n lent ∷ calls) p =
       let q = paper .refusesRun n (length lent) (p .state) in withRun q (machine calls (machineRun (paper .clock) q n p))
-  machine (other a ∷ calls) p = let g = otherOf a (p .state) in withOther (p .stretch) a (g .reply) (machine calls (from (g .state) (p .count)))
+  machine (other a ∷ calls) p = let g = otherOf a (p .state) in
+      withOther (p .stretch) a (g .reply) (machine calls (from (g .state) (p .count)))

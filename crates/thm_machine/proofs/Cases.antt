@@ -9,7 +9,8 @@ use Rattle.limits.specs.Every.{every}
 use Rattle.memory.specs.Layout.{withinLimits, layoutOf, arenaOrder, pagesBefore, pagesOfAll, firstPage, arenaPages, arenaLen, regionOf}
 use Rattle.memory.specs.Changes.{changed, countChanged, lowestChanged, prgChanges, chrChanges, changes}
 use Rattle.memory.specs.Range.{layoutOk, usedOk, entryOk, memoryOk}
-use Rattle.memory_map.specs.Windows.{banksOf, windowBase, regionPage, eachPage, showPages, mapPages, unmapPages, setWritable, mapPrg, mapChr, unmapPrg, setPrgWritable}
+use Rattle.memory_map.specs.Windows.{banksOf, windowBase, regionPage, eachPage, showPages, mapPages, unmapPages, setWritable, mapPrg}
+use Rattle.memory_map.specs.Windows.{mapChr, unmapPrg, setPrgWritable}
 use Rattle.memory_map.specs.Mirroring.{nametablePage, mirrorPages, setMirroring}
 use Rattle.memory_map.specs.New.{unmappedMemory, newMemory}
 use Rattle.sound.specs.Levels.{wholePart}
@@ -63,6 +64,7 @@ never-moves n s h = by (is163 (s .chip .board)) refl (still h)
     still (inl l) = stopped n (s .chip .regs) (low-stops (s .chip .regs .«irq_counter») l) .regs
     still (inr e) = stopped n (s .chip .regs) (top-stops (s .chip .regs .«irq_counter») e) .regs
 
-    by : (t : Bool) → is163 (s .chip .board) ≡ t → counterRun n (s .chip .regs) ≡ s .chip .regs → clocks n s .state .chip .regs ≡ s .chip .regs
+    by : (t : Bool) → is163 (s .chip .board) ≡ t → counterRun n (s .chip .regs) ≡ s .chip .regs
+        → clocks n s .state .chip .regs ≡ s .chip .regs
     by true e q = ap (λ (x : State). x .chip .regs) (sounds-state n s e) ∙ q
     by false e q = ap (λ (x : State). x .chip .regs) (silent-state n s e) ∙ q

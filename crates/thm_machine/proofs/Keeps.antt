@@ -20,7 +20,8 @@ use Rattle.call_battery.specs.Battery.{syncArena, restoreState}
 use Rattle.image_write.specs.Writing.{writeRefusal, writtenImage}
 use Rattle.call_run.specs.Clock.{stateClock}
 use Rattle.call_run.specs.Run.{runChecks, runGave}
-use Rattle.thm_machine.specs.Calls.{Held, Other, cpuRead, cpuPeek, cpuWrite, chrRead, chrWrite, fill, regionPeek, regionWrite, sram, reset, syncBattery, restoreBattery, writeImage}
+use Rattle.thm_machine.specs.Calls.{Held, Other, cpuRead, cpuPeek, cpuWrite, chrRead, chrWrite, fill, regionPeek, regionWrite, sram}
+use Rattle.thm_machine.specs.Calls.{reset, syncBattery, restoreBattery, writeImage}
 use Rattle.thm_machine.specs.Paper.{clock, checks, answers, paper}
 use Rattle.thm_machine.specs.Board.{otherGives, runGives, board}
 
@@ -58,7 +59,8 @@ refusal : (q : ℕ) → eqb (suc q) 0 ≡ false
 refusal q = ne-eqb (suc q) 0 (λ e. omega arith)
 
 pub keeps-other : (a : Other) (h : Held) → otherGives a h ≡ otherOf paper a h
-unfolding otherGives checks answers cpuReadGives cpuPeekGives cpuWriteGives cpuWriteArena chrReadGives chrWriteArena fillArena regionRead regionWriteArena sramAnswer resetState syncArena restoreState writeRefusal writtenImage
+unfolding otherGives checks answers cpuReadGives cpuPeekGives cpuWriteGives cpuWriteArena chrReadGives chrWriteArena fillArena regionRead
+    regionWriteArena sramAnswer resetState syncArena restoreState writeRefusal writtenImage
 keeps-other a h = by a (firstOf (checks a h)) refl
   where
     by : (a : Other) (q : ℕ) → firstOf (checks a h) ≡ q → otherGives a h ≡ otherOf paper a h

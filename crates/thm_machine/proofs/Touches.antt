@@ -24,7 +24,8 @@ use Rattle.call_cpu.specs.Calls.{writeRegister}
 use Rattle.board_state.specs.declared.State.{State}
 use Rattle.call_refusals.specs.Refusals.{firstOf, resetChecks}
 use Rattle.call_refusals.proofs.Laws.{accepted-none}
-use Rattle.thm_machine.specs.Calls.{Held, Other, cpuRead, cpuPeek, cpuWrite, chrRead, chrWrite, fill, regionPeek, regionWrite, sram, reset, syncBattery, restoreBattery, writeImage, Answer}
+use Rattle.thm_machine.specs.Calls.{Held, Other, cpuRead, cpuPeek, cpuWrite, chrRead, chrWrite, fill, regionPeek, regionWrite, sram}
+use Rattle.thm_machine.specs.Calls.{reset, syncBattery, restoreBattery, writeImage, Answer}
 use Rattle.thm_machine.specs.Paper.{checks, answers}
 use Rattle.thm_machine.specs.Board.{otherGives, board}
 use Rattle.thm_machine.specs.Counter.{counterOf, lineOf, touches, NoneTouches}

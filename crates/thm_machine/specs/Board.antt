@@ -12,7 +12,8 @@ use Rattle.call_reset.specs.Reset.{resetState}
 use Rattle.call_battery.specs.Battery.{syncArena, restoreState}
 use Rattle.image_write.specs.Writing.{writeRefusal, writtenImage}
 use Rattle.call_run.specs.Run.{runGave}
-use Rattle.thm_machine.specs.Calls.{Held, Other, cpuRead, cpuPeek, cpuWrite, chrRead, chrWrite, fill, regionPeek, regionWrite, sram, reset, syncBattery, restoreBattery, writeImage, Answer, byte, changed, span, image, done}
+use Rattle.thm_machine.specs.Calls.{Held, Other, cpuRead, cpuPeek, cpuWrite, chrRead, chrWrite, fill, regionPeek, regionWrite, sram}
+use Rattle.thm_machine.specs.Calls.{reset, syncBattery, restoreBattery, writeImage, Answer, byte, changed, span, image, done}
 
 -- an answer by its refusal number
 abbrev pub replyOf : ℕ → Answer → Reply Answer
@@ -27,19 +28,24 @@ unfoldable pub otherGives : Other → Held → Gave Held Answer
 otherGives (cpuRead addr) h = let r = cpuReadGives (h .state) (h .arena) addr in gave (r .refusal) (byte (r .byte)) (r .state) (h .arena)
 otherGives (cpuPeek addr) h = let r = cpuPeekGives (h .state) (h .arena) addr in gave (r .refusal) (byte (r .byte)) (h .state) (h .arena)
 otherGives (cpuWrite addr v) h =
-    let r = cpuWriteGives (h .state) (h .arena) addr v in gave (r .refusal) (changed (r .changed)) (r .state) (cpuWriteArena (h .state) (h .arena) addr v)
+    let r = cpuWriteGives (h .state) (h .arena) addr v in
+    gave (r .refusal) (changed (r .changed)) (r .state) (cpuWriteArena (h .state) (h .arena) addr v)
 otherGives (chrRead addr) h = let r = chrReadGives (h .state) (h .arena) addr in gave (r .refusal) (byte (r .byte)) (h .state) (h .arena)
-otherGives (chrWrite addr v) h = gave (firstOf (arenaChecks (h .state) (length (h .arena)))) done (h .state) (chrWriteArena (h .state) (h .arena) addr v)
+otherGives (chrWrite addr v) h = gave (firstOf (arenaChecks (h .state) (length (h .arena)))) done (h .state)
+    (chrWriteArena (h .state) (h .arena) addr v)
 otherGives (fill src bytes) h =
-    gave (firstOf (fillChecks (h .state) (length (h .arena)) src (length bytes))) done (h .state) (fillArena (h .state) (h .arena) src bytes)
-otherGives (regionPeek src offset) h = let r = regionRead (h .state) (h .arena) src offset in gave (r .refusal) (byte (r .byte)) (h .state) (h .arena)
+    gave (firstOf (fillChecks (h .state) (length (h .arena)) src (length bytes))) done (h .state)
+    (fillArena (h .state) (h .arena) src bytes)
+otherGives (regionPeek src offset) h = let r = regionRead (h .state) (h .arena) src offset in
+    gave (r .refusal) (byte (r .byte)) (h .state) (h .arena)
 otherGives (regionWrite src offset v) h =
     gave (firstOf (arenaChecks (h .state) (length (h .arena)))) done (h .state) (regionWriteArena (h .state) (h .arena) src offset v)
 otherGives sram h = let r = sramAnswer (h .state) in gave (r .refusal) (span (r .start) (r .len)) (h .state) (h .arena)
 otherGives (reset kind) h = let r = resetState (h .state) kind in gave (r .refusal) done (r .state) (h .arena)
 otherGives syncBattery h = gave (firstOf (batteryChecks (h .state) (length (h .arena)))) done (h .state) (syncArena (h .state) (h .arena))
 otherGives restoreBattery h = let r = restoreState (h .state) (h .arena) in gave (r .refusal) done (r .state) (h .arena)
-otherGives (writeImage buffer) h = gave (writeRefusal (h .state) (length buffer)) (image (writtenImage (h .state) buffer)) (h .state) (h .arena)
+otherGives (writeImage buffer) h = gave (writeRefusal (h .state) (length buffer)) (image (writtenImage (h .state) buffer)) (h .state)
+    (h .arena)
 
 -- the contract of crates/clocks: run.rt. A run takes no arena.
 unfoldable pub runGives : ℕ → List Float → Held → RunGave Held Float

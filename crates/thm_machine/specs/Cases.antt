@@ -76,7 +76,8 @@ pages =
     let last = write p 0x8000 0xDF in
     (loadP 128 .refusal, 0) ∷ (arenaPages (layoutOf (sizesP 128)), 52) ∷ (arenaLen (layoutOf (sizesP 128)), bytesP)
     ∷ (prg p 56, page 25) ∷ (prg (bank .state) 32, page 25)
-    ∷ (chr (ciram .state) 0, pageW 51) ∷ (bit (getD (ciram .state .chip .«nt_bank_enable») 0 false), 1) ∷ (getD (ciram .state .chip .«chr_banks») 0 0, 1)
+    ∷ (chr (ciram .state) 0, pageW 51) ∷ (bit (getD (ciram .state .chip .«nt_bank_enable») 0 false), 1)
+    ∷ (getD (ciram .state .chip .«chr_banks») 0 0, 1)
     ∷ (chr (selected .state) 0, page 34) ∷ (bit (getD (selected .state .chip .«nt_bank_enable») 0 true), 0)
     ∷ (getD (selected .state .chip .«chr_banks») 0 0, 0xE1)
     ∷ (chr (last .state) 0, page 40)

@@ -6,7 +6,8 @@ use mathlib.Core.Path.{_≡_}
 use lib.Dec.{leb}
 use lib.Ieee.{Float}
 use Rattle.cut.specs.Calls.{Call, run, other}
-use Rattle.thm_machine.specs.Calls.{Held, Other, cpuRead, cpuPeek, cpuWrite, chrRead, chrWrite, fill, regionPeek, regionWrite, sram, reset, syncBattery, restoreBattery, writeImage}
+use Rattle.thm_machine.specs.Calls.{Held, Other, cpuRead, cpuPeek, cpuWrite, chrRead, chrWrite, fill, regionPeek, regionWrite, sram}
+use Rattle.thm_machine.specs.Calls.{reset, syncBattery, restoreBattery, writeImage}
 
 -- "The line is the pending flag."
 abbrev pub counterOf : Held → ℕ

@@ -6,7 +6,8 @@ use lib.Ieee.{Float}
 use lib.ListN.{length}
 use Rattle.cut.specs.Machine.{Clocked, Answered, Paper}
 use Rattle.memory.specs.declared.layout.Src.the-variants.{BatteryExt}
-use Rattle.memory_bytes.specs.Bytes.{prgWrite, chrPeek, chrWrite as chrStore, regionPeek as regionByte, regionWrite as regionStore, fillRegion, sramOf, overlay}
+use Rattle.memory_bytes.specs.Bytes.{prgWrite, chrPeek, chrWrite as chrStore, regionPeek as regionByte, regionWrite as regionStore}
+use Rattle.memory_bytes.specs.Bytes.{fillRegion, sramOf, overlay}
 use Rattle.memory.specs.Memory.{regionIn}
 use Rattle.sound.specs.Audio.{withRam}
 use Rattle.board_chip.specs.Namco163.{withAudio}
@@ -23,11 +24,13 @@ use Rattle.image_write.specs.Image.{imageOf}
 use Rattle.image_write.specs.Writing.{writeChecks}
 use Rattle.call_run.specs.Clock.{stateClock}
 use Rattle.call_run.specs.Run.{runChecks}
-use Rattle.thm_machine.specs.Calls.{Held, Other, cpuRead, cpuPeek, cpuWrite, chrRead, chrWrite, fill, regionPeek, regionWrite, sram, reset, syncBattery, restoreBattery, writeImage, Answer, byte, changed, span, image, done}
+use Rattle.thm_machine.specs.Calls.{Held, Other, cpuRead, cpuPeek, cpuWrite, chrRead, chrWrite, fill, regionPeek, regionWrite, sram}
+use Rattle.thm_machine.specs.Calls.{reset, syncBattery, restoreBattery, writeImage, Answer, byte, changed, span, image, done}
 
 -- one clock: it leaves the arena
 unfoldable pub clock : Held → Clocked Held Float
-clock h = let c = stateClock (h .state) in record { state = record { state = c .state; arena = h .arena }; sample = c .sample; rise = c .rise }
+clock h = let c = stateClock (h .state) in
+    record { state = record { state = c .state; arena = h .arena }; sample = c .sample; rise = c .rise }
 
 -- the checks of each call, in 01's order
 unfoldable pub checks : Other → Held → List Check

@@ -6,6 +6,7 @@ use mathlib.Core.List.{List, [], _∷_, _++_}
 use mathlib.Core.Logic.{_⊎_, inl, inr}
 use mathlib.Core.Option.{Option, some, none}
 use native.Mathlib.Omega.{arith}
+use borrow.Author.Needs.{needs}
 use borrow.Author.Tests.{not-false, eqb-true}
 use lib.Dec.{eqb}
 use lib.Ieee.{Float}
@@ -50,7 +51,8 @@ use Rattle.call_load.specs.Cartridge.{LoadFits, memoryAtLoad, freshState}
 use Rattle.call_load.proofs.Laws.{sized-load, load-good}
 use Rattle.call_run.specs.Clock.{stateClock}
 use Rattle.call_run.specs.Run.{clocks, runChecks, runGave}
-use Rattle.thm_machine.specs.Calls.{Held, Other, cpuRead, cpuPeek, cpuWrite, chrRead, chrWrite, fill, regionPeek, regionWrite, sram, reset, syncBattery, restoreBattery, writeImage, Answer, ArgTyped}
+use Rattle.thm_machine.specs.Calls.{Held, Other, cpuRead, cpuPeek, cpuWrite, chrRead, chrWrite, fill, regionPeek, regionWrite, sram, reset}
+use Rattle.thm_machine.specs.Calls.{syncBattery, restoreBattery, writeImage, Answer, ArgTyped}
 use Rattle.thm_machine.specs.Paper.{checks, answers}
 use Rattle.thm_machine.specs.Board.{otherGives, runGives}
 use Rattle.thm_machine.specs.Start.{Loaded, loaded, zeroed}
@@ -157,13 +159,15 @@ fill-fits h src bytes p f e =
     fit-arena h _ (overlay-whole (h .arena) (regionIn (h .state .memory) src .start) bytes (omega (arith, inside, g .1)) p (f .bytes)) f
 
 sync-fits : (h : Held) → Fit h → firstOf (checks syncBattery h) ≡ 0
-    → Fit (record { state = h .state; arena = overlay (h .arena) (regionIn (h .state .memory) BatteryExt .start) (h .state .chip .audio .ram) })
+    → let at = regionIn (h .state .memory) BatteryExt .start in
+    Fit (record { state = h .state; arena = overlay (h .arena) at (h .state .chip .audio .ram) })
 unfolding checks
 sync-fits h f e =
     let g = battery-good (h .state) (length (h .arena)) e in
     let y = f .known .typed .chip .audio in
     let at = regionIn (h .state .memory) BatteryExt .start in
-    fit-arena h _ (overlay-whole (h .arena) at (h .state .chip .audio .ram) (omega (arith, g .inside, y .«ram-length»)) (y .bytes) (f .bytes)) f
+    fit-arena h _
+    (overlay-whole (h .arena) at (h .state .chip .audio .ram) (omega (arith, g .inside, y .«ram-length»)) (y .bytes) (f .bytes)) f
 
 restore-fits : (h : Held) → Fit h → firstOf (checks restoreBattery h) ≡ 0
     → let n = h .state .chip in
@@ -275,7 +279,7 @@ zeroed-fits : (l : Loaded) → l .submapper < 2 ^ 8 → Fit (zeroed l)
 unfolding freshState
 zeroed-fits l sub =
     let mapper = l .mapper in let sizes = l .sizes in
-    let h = accepted-none (loadChecks mapper sizes (length (l .arena))) (omega arith, (omega arith, (omega arith, (omega arith, tt)))) (l .accepted) in
+    let h = accepted-none (loadChecks mapper sizes (length (l .arena))) (search needs) (l .accepted) in
     let g = load-good mapper sizes (length (l .arena)) (l .accepted) in
     let m = memoryAtLoad mapper sizes in
     let q = mapped (chipAtLoad mapper (l .submapper) (l .flags) (l .known)) m in
@@ -291,7 +295,8 @@ zeroed-fits l sub =
             range =
                 record {
                   chip = load-in-range mapper (l .submapper) (l .flags) (l .known) number;
-                  memory = memory-range m _ q (record { ranged = ranged-load mapper sizes (g .fits); used = used-load mapper sizes (g .fits) });
+                  memory = memory-range m _ q
+                      (record { ranged = ranged-load mapper sizes (g .fits); used = used-load mapper sizes (g .fits) });
                 };
           };
       long = rw (q .kept .layout, layout-load mapper sizes) (length-replicate (arenaLen (layoutOf sizes)) 0);

@@ -13,7 +13,8 @@ use Rattle.memory.specs.Layout.{layoutOf, arenaLen}
 use Rattle.memory.specs.Memory.{regionIn}
 use Rattle.board_state.specs.declared.State.{State}
 use Rattle.board_state.specs.State.{inRange}
-use Rattle.call_refusals.specs.Refusals.{Check, firstOf, stateChecks, resetChecks, arenaChecks, cpuChecks, fillChecks, batteryChecks, loadChecks}
+use Rattle.call_refusals.specs.Refusals.{Check, firstOf, stateChecks, resetChecks, arenaChecks, cpuChecks, fillChecks, batteryChecks}
+use Rattle.call_refusals.specs.Refusals.{loadChecks}
 use Rattle.call_load.specs.Cartridge.{LoadFits}
 use Rattle.call_refusals.proofs.Laws.{Numbered, NoneHolds, accepted-none, none-accepted, refused-first}
 

@@ -19,7 +19,8 @@ use Rattle.board_state.proofs.Range.{known-passes}
 use Rattle.call_refusals.specs.Refusals.{Check, firstOf, stateCheck, arenaCheck}
 use Rattle.memory.specs.Layout.{arenaLen}
 use Rattle.call_run.specs.Run.{clocks, runChecks, runGave}
-use Rattle.thm_machine.specs.Calls.{Held, Other, cpuRead, cpuPeek, cpuWrite, chrRead, chrWrite, fill, regionPeek, regionWrite, sram, reset, syncBattery, restoreBattery, writeImage, Answer, CallTyped}
+use Rattle.thm_machine.specs.Calls.{Held, Other, cpuRead, cpuPeek, cpuWrite, chrRead, chrWrite, fill, regionPeek, regionWrite, sram, reset}
+use Rattle.thm_machine.specs.Calls.{syncBattery, restoreBattery, writeImage, Answer, CallTyped}
 use Rattle.thm_machine.specs.Paper.{checks, answers}
 use Rattle.thm_machine.specs.Board.{otherGives, runGives, board}
 use Rattle.thm_machine.specs.Start.{Loaded, loaded}
@@ -109,7 +110,8 @@ never-by k e =
           (sym (ran (firstOf (runChecks (h .state) n (length lent))) h n lent) ∙ q);
       other = λ a h f q.
           not-first k (nonzero k e) (checks a h) (all-clear h f k e a)
-          (replied (firstOf (checks a h)) (answers a h) h k (nonzero k e) (ap (λ (g : Gave Held Answer). g .reply) (sym (keeps-other a h)) ∙ q));
+          (replied (firstOf (checks a h)) (answers a h) h k (nonzero k e)
+          (ap (λ (g : Gave Held Answer). g .reply) (sym (keeps-other a h)) ∙ q));
     }
 
 pub never-2-or-7 : (k : ℕ) → (k ≡ 2) ⊎ (k ≡ 7) → (l : Loaded) → l .submapper < 2 ^ 8 → (calls : List (Call Float Other))

@@ -15,7 +15,9 @@ use Rattle.memory.specs.Memory.{regionIn}
 use Rattle.board_state.specs.declared.State.{State}
 use Rattle.board_state.specs.State.{mapperOk, inRange}
 use Rattle.limits.proofs.Every.{and-left, and-right, both}
-use Rattle.call_refusals.specs.Refusals.{Check, firstOf, stateCheck, kindCheck, mapperCheck, sizesCheck, reserveCheck, arenaCheck, addressCheck, fillCheck, batteryCheck, resetChecks, arenaChecks, cpuChecks, fillChecks, batteryChecks, loadChecks}
+use Rattle.call_refusals.specs.Refusals.{Check, firstOf, stateCheck, kindCheck, mapperCheck, sizesCheck, reserveCheck, arenaCheck}
+use Rattle.call_refusals.specs.Refusals.{addressCheck, fillCheck, batteryCheck, resetChecks, arenaChecks, cpuChecks, fillChecks}
+use Rattle.call_refusals.specs.Refusals.{batteryChecks, loadChecks}
 use Rattle.thm_range.proofs.Decided.{Decided, reset-decided, cpu-decided, fill-decided, battery-decided, load-decided}
 
 -- what a test says of its negation

@@ -31,7 +31,8 @@ plainly-refused zero b h n = absurd (n refl)
 plainly-refused (suc q) b h n = refl
 
 -- its number alone, and state and arena as they were
-pub other-refused : (a : Other) (h : Held) → Refused (checks a h) → otherGives a h ≡ record { reply = refused (firstOf (checks a h)); state = h }
+pub other-refused : (a : Other) (h : Held) → Refused (checks a h)
+    → otherGives a h ≡ record { reply = refused (firstOf (checks a h)); state = h }
 other-refused a h n = rw (keeps-other a h) (plainly-refused (firstOf (checks a h)) (answers a h) h n)
 
 pub other-accepted : (a : Other) (h : Held) → Accepted (checks a h)
@@ -40,8 +41,11 @@ other-accepted a h e = rw (keeps-other a h, e)
 
 -- ---- the load: a state that no call accepts, and the arena as it was
 
-module _ (mapper sub flags : ℕ) (known : Bool) (sizes : MemoryLayout) (arena : List ℕ) (h : Refused (loadChecks mapper sizes (length arena))) where
-  pub load-refused : (loadAnswer mapper sub flags known sizes (length arena) ≡ record { refusal = firstOf (loadChecks mapper sizes (length arena)); state = noState })
+module _ (mapper sub flags : ℕ) (known : Bool) (sizes : MemoryLayout) (arena : List ℕ)
+    (h : Refused (loadChecks mapper sizes (length arena))) where
+  pub load-refused :
+      (loadAnswer mapper sub flags known sizes (length arena)
+      ≡ record { refusal = firstOf (loadChecks mapper sizes (length arena)); state = noState })
       × (loadArena mapper sizes arena ≡ arena)
   unfolding loadAnswer loadArena
   load-refused =

@@ -25,7 +25,9 @@ use Rattle.memory.specs.Range.{Ranged, MemoryTyped, MemoryInRange}
 use Rattle.memory_map.specs.Mirroring.{setMirroring}
 use Rattle.memory.specs.Page.{unmapped}
 use Rattle.memory_map.specs.Windows.{mapPages, showPages, unmapPages, setWritable, mapPrg, mapChr, unmapPrg, setPrgWritable}
-use Rattle.memory_map.proofs.Laws.Memory.{each-other, ranged-map-prg, ranged-map-chr, ranged-unmap-prg, ranged-set-writable, ranged-mirroring, typed-map-prg, typed-map-chr, typed-unmap-prg, typed-set-writable, typed-mirroring}
+use Rattle.memory_map.proofs.Laws.Memory.{each-other, ranged-map-prg, ranged-map-chr, ranged-unmap-prg, ranged-set-writable}
+use Rattle.memory_map.proofs.Laws.Memory.{ranged-mirroring, typed-map-prg, typed-map-chr, typed-unmap-prg, typed-set-writable}
+use Rattle.memory_map.proofs.Laws.Memory.{typed-mirroring}
 use Rattle.board_chip.specs.declared.namco163.Namco163.{Namco163}
 use Rattle.board_chip.specs.Namco163.{prgWindow, chrWindow, is163}
 use Rattle.board_chip.specs.Detection.{prgRamReadable}

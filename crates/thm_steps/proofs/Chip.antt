@@ -21,7 +21,8 @@ use Rattle.board_chip.specs.declared.namco163.Namco163.{Namco163}
 use Rattle.board_chip.specs.declared.namco163.Regs.{Regs}
 use Rattle.board_chip.specs.declared.reset.ResetKind.{ResetKind}
 use Rattle.board_chip.specs.declared.reset.ResetKind.the-variants.{Soft, Hard}
-use Rattle.board_chip.specs.Namco163.{is163, is175, is340, withBoard, withMirroring, withRegs, withAudio, withWritten, withSlots, withProtect}
+use Rattle.board_chip.specs.Namco163.{is163, is175, is340, withBoard, withMirroring, withRegs, withAudio, withWritten, withSlots}
+use Rattle.board_chip.specs.Namco163.{withProtect}
 use Rattle.board_chip.specs.Detection.{mayChange, maybeSetBoard}
 use Rattle.board_chip.specs.Load.{chipAtLoad}
 use Rattle.board_chip.specs.Reads.{afterRead}

@@ -16,7 +16,8 @@ use Rattle.board_chip.specs.Load.{boardAtLoad, detectingAtLoad, chipAtLoad}
 use Rattle.board_chr.specs.Slots.{setsCiram, writeSlot}
 use Rattle.board_prg.specs.Banks.{writeE800, writeF800}
 use Rattle.board_registers.specs.Writes.{writeSoundData, writeCounterLow, writeCounterHigh, writeChip}
-use Rattle.thm_wiki.specs.Wiki.{WikiRegs, chrPage, nametable, wikiBit, wikiWrite, wikiWrites, wikiAllowed, wikiSelects, wikiShows, slotShows, Beside, chipWrites, Steady}
+use Rattle.thm_wiki.specs.Wiki.{WikiRegs, chrPage, nametable, wikiBit, wikiWrite, wikiWrites, wikiAllowed, wikiSelects, wikiShows}
+use Rattle.thm_wiki.specs.Wiki.{slotShows, Beside, chipWrites, Steady}
 use Rattle.board_registers.proofs.Kept.{never-unknown}
 use Rattle.thm_wiki.proofs.Beside.{settled, beside-same, written-disabled, below-e000, above-e7ff}
 use Rattle.thm_wiki.proofs.Windows.{window-written, c000-slot, c800-slot}

@@ -8,12 +8,14 @@ use native.Mathlib.Omega.{arith}
 use lib.Pow.{pow-add, pow-mono, shl-exact, shr-lt, split}
 use lib.Arith.{digits-lt, lt-one}
 use lib.ListN.{length, take, drop, set, getD, replicate, length-replicate, length-drop}
-use lib.Seq.{take-suc, take-suc-set, getD-drop, paste, take-paste, drop-paste, length-paste, take-all, take-add, length-take-le, take-length, drop-drop}
+use lib.Seq.{take-suc, take-suc-set, getD-drop, paste, take-paste, drop-paste, length-paste, take-all, take-add, length-take-le}
+use lib.Seq.{take-length, drop-drop}
 use Rattle.bits.specs.Fields.{total, pack, unpack, Fit, after, times, each}
 use Rattle.bits.specs.Words.{wordOf, eights}
 use Rattle.bits.specs.Cursor.{Held, Wrote, bitsWritten, Behind, Read, bitsRead, start}
 use Rattle.bits.specs.declared.cursor.Cursor.{Cursor}
-use Rattle.bits.proofs.Fields.{total-append, pack-unpack, unpack-pack, fit-unpack, after-append, after-word, fit-length, fit-append, replicate-snoc, each-append, times-add, times-each}
+use Rattle.bits.proofs.Fields.{total-append, pack-unpack, unpack-pack, fit-unpack, after-append, after-word, fit-length, fit-append}
+use Rattle.bits.proofs.Fields.{replicate-snoc, each-append, times-add, times-each}
 use Rattle.bits.proofs.Lists.{holds-take}
 use Rattle.bits.proofs.words.Laws.{total-eights, word-append, length-bytes, word-of-bytes, fit-bytes, bytes-of-word}
 

@@ -12,7 +12,8 @@ returns c = rw (lt-leb _ _ (c .if1 .taken))
 
 returns-2 : tie.Need-returns-2
 unfolding setsCiram
-returns-2 c = rw (le-leb _ _ (c .before .before .if1 .left), ← c .before .is-163 .ensures, not-true (c .before .is-163 .result) (c .if2 .taken))
+returns-2 c =
+    rw (le-leb _ _ (c .before .before .if1 .left), ← c .before .is-163 .ensures, not-true (c .before .is-163 .result) (c .if2 .taken))
 
 returns-3 : tie.Need-returns-3
 unfolding setsCiram

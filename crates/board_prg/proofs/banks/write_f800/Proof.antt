@@ -8,7 +8,8 @@ use Rattle.board_prg.proofs.banks.write_f800.Tie as tie
 
 returns : tie.Need-returns
 unfolding writeF800
-returns c = rw (← c .before .before .maybe-set-board .ensures, ← c .before .is-163 .ensures, not-true (c .before .is-163 .result) (c .if1 .taken))
+returns c =
+    rw (← c .before .before .maybe-set-board .ensures, ← c .before .is-163 .ensures, not-true (c .before .is-163 .result) (c .if1 .taken))
 
 write-register-requires : tie.Need-write-register-requires
 write-register-requires c κs =

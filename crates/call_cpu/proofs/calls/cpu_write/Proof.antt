@@ -17,4 +17,6 @@ returns-2 c = (
 )
 
 pub cpu-write-spec : {M : Type 1} → statement M
-cpu-write-spec = tie.close (tie.spec (λ c κs. search needs) cpu-write-known-requires (λ c. search needs) (λ c. search needs) (λ c κs. search needs) returns-2)
+cpu-write-spec =
+    tie.close
+    (tie.spec (λ c κs. search needs) cpu-write-known-requires (λ c. search needs) (λ c. search needs) (λ c κs. search needs) returns-2)

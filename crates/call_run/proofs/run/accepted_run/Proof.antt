@@ -21,7 +21,8 @@ returns c =
       rw (start .pre, silent-samples (a .n) (a .s) p),
     )
 
-is-163 : (c : tie.Else1) → let start = c .before .before .before .before .before .before .before in is163 (start .args .s .chip .board) ≡ true
+is-163 : (c : tie.Else1) → let start = c .before .before .before .before .before .before .before in
+    is163 (start .args .s .chip .board) ≡ true
 is-163 c = sym (c .before .is-163 .ensures) ∙ not-false (c .before .is-163 .result) (c .if1 .left)
 
 run-sound-requires : tie.Need-run-sound-requires

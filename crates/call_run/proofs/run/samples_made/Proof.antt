@@ -9,7 +9,12 @@ use Rattle.call_run.proofs.run.samples_made.Tie as tie
 returns : tie.Need-returns
 returns c =
     let c1 = c .before in let c3 = c1 .before .before in
-    rw (made-floor (c3 .args .n) (c3 .args .s) (counter-small _ (c3 .pre)), ← c1 .is-163 .ensures, not-true (c1 .is-163 .result) (c .if1 .taken))
+    rw (
+      made-floor (c3 .args .n) (c3 .args .s) (counter-small _ (c3 .pre)),
+      ← c1 .is-163 .ensures,
+      not-true (c1 .is-163 .result)
+          (c .if1 .taken),
+    )
 
 returns-2 : tie.Need-returns-2
 returns-2 c =
