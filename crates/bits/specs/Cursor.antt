@@ -1,4 +1,4 @@
--- A place in a slice of bytes, in bits, and the bits before it as one number.
+-- H1: a place in a slice of bytes, in bits, and the bits before it as one number.
 use mathlib.Core.Path.{_≡_}
 use mathlib.Core.List.{List}
 use Prim.Native.Nat.{ℕ, _+_, _*_, _^_, _/_, _%_, _≤_, _<_}

@@ -1,4 +1,4 @@
--- Fields of any widths as one number in mixed radix, most significant first, and back.
+-- A7, H1: fields of any widths as one number, the first field in the most significant bits, and back.
 use mathlib.Core.Bool.{Bool, true, false}
 use mathlib.Core.List.{List, [], _∷_, _++_}
 use Prim.Native.Nat.{ℕ, zero, suc, _+_, _*_, _^_, _/_, _%_, _<_}
@@ -30,7 +30,7 @@ Fit (w ∷ ws) (v ∷ vs) = (v < 2 ^ w) × Fit ws vs
 unfoldable pub after : ℕ → List ℕ → List ℕ → ℕ
 after S ws vs = S * 2 ^ total ws + pack ws vs
 
--- a yes/no in one bit
+-- H1: a yes/no in one bit
 abbrev pub bit : Bool → ℕ
 bit true = 1
 bit false = 0
@@ -40,7 +40,7 @@ unfoldable pub times : ℕ → List ℕ → List ℕ
 times zero ws = []
 times (suc n) ws = ws ++ times n ws
 
--- the fields of each element of an array, from index 0
+-- H2: the fields of each element of an array, element 0 first
 unfoldable pub each : {A : Type 0} → (A → List ℕ) → List A → List ℕ
 each f [] = []
 each f (x ∷ xs) = f x ++ each f xs

@@ -1,4 +1,4 @@
--- Bytes as one number, most significant first, and back: fields of 8 bits.
+-- H1: bytes as one number, the most significant first, and back: fields of 8 bits.
 use mathlib.Core.List.{List}
 use Prim.Native.Nat.{ℕ}
 use lib.ListN.{length, replicate}

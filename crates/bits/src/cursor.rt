@@ -1,6 +1,6 @@
 // A bit cursor by value: fields of any number of bits, most significant first, whole bytes stored or taken as they fill.
-ghost use mathlib.Core.Path.{_≡_};
 ghost use Prim.Native.Nat.{_+_, _*_, _^_, _<_, _≤_};
+ghost use mathlib.Core.Path.{_≡_};
 ghost use mathlib.Core.List.{[], _∷_};
 ghost use lib.ListN.{length, replicate};
 ghost use Rattle.bits.specs.Fields.{Fit};

@@ -1,6 +1,6 @@
 // Whole bytes in a slice: words of k bytes, most significant first, and copies.
-ghost use mathlib.Core.Path.{_≡_};
 ghost use Prim.Native.Nat.{_+_, _*_, _%_, _^_, _<_, _≤_};
+ghost use mathlib.Core.Path.{_≡_};
 ghost use lib.ListN.{length, take, drop};
 ghost use lib.Seq.{paste};
 ghost use Rattle.bits.specs.Words.{wordOf, bytesOf};

@@ -1,4 +1,4 @@
--- The Rust's `update_banks`: the page tables by the registers and the layout alone, as steps of the memory, in the Rust's order.
+-- L13: the Rust's `update_banks`, the page tables by the registers and the layout alone, as steps of the memory, in the Rust's order.
 use Prim.Native.Nat.{ℕ, zero, suc, _+_, _*_, _/_}
 use mathlib.Core.Bool.{Bool, true, false, cond}
 use mathlib.Core.List.{List}
@@ -16,12 +16,12 @@ use Rattle.board_chip.specs.declared.namco163.Namco163.{Namco163}
 use Rattle.board_chip.specs.Namco163.{is163, prgWindow, chrWindow}
 use Rattle.board_chip.specs.Detection.{prgRamReadable, prgRamWritable}
 
--- the region that a CHR slot shows, by its CIRAM flag
+-- L13: the region that a CHR slot shows, by its CIRAM flag
 abbrev pub slotSrc : Bool → Src
 slotSrc true = CiRam
 slotSrc false = Chr
 
--- where a slot of 0000..2FFF is shown, `show` being the mapping of a window: at its address, and if it is one of 2000..2FFF again in
+-- L13: where a slot of 0000..2FFF is shown, `show` being the mapping of a window: at its address, and if it is one of 2000..2FFF again in
 -- 3000..3FFF
 abbrev pub inSlot : {A : Type 0} → (ℕ → A → A) → ℕ → A → A
 inSlot show slot a =
@@ -42,27 +42,27 @@ unfoldable pub mapSlots : Namco163 → ℕ → Memory → Memory
 mapSlots n zero m = m
 mapSlots n (suc k) m = mapSlot (mapSlots n k m) k (getD (n .«chr_banks») k 0) (getD (n .«nt_bank_enable») k false)
 
--- twelve slots on a 163; eight on another board, whose nametables come from its mirroring
+-- L13: twelve slots on a 163; eight on another board, whose nametables come from its mirroring (M7)
 unfoldable pub mapChrTable : Namco163 → Memory → Memory
 mapChrTable n m = cond (is163 (n .board)) (mapSlots n 12 m) (setMirroring (mapSlots n 8 m) (n .mirroring))
 
--- a PRG-ROM bank in a window
+-- L13: a PRG-ROM bank in a window
 abbrev pub mapBank : Memory → ℕ → ℕ → Memory
 mapBank m addr bank = mapPrg m addr prgWindow (pos bank) PrgRom
 
--- the three bank registers at 8000, A000 and C000, and the last bank at E000
+-- L13: the three bank registers at 8000, A000 and C000, and the last bank at E000
 unfoldable pub mapRom : Namco163 → Memory → Memory
 mapRom n m =
     let bank = getD (n .«prg_banks») in
     mapPrg (mapBank (mapBank (mapBank m 0x8000 (bank 0 0)) 0xA000 (bank 1 0)) 0xC000 (bank 2 0)) 0xE000 prgWindow (negsuc 0) PrgRom
 
--- work RAM at 6000, with its flag, or nothing
+-- L13: work RAM at 6000, with its flag (M5), or nothing
 unfoldable pub mapWorkRam : Namco163 → Memory → Memory
 mapWorkRam n m =
     cond (prgRamReadable (n .board))
     (setPrgWritable (mapPrg m 0x6000 prgWindow (pos 0) PrgRam) 0x6000 prgWindow (prgRamWritable (n .board) (n .regs .«prg_ram_protect»)))
     (unmapPrg m 0x6000 prgWindow)
 
--- `update_banks`
+-- L13: `update_banks`
 unfoldable pub updateBanks : Namco163 → Memory → Memory
 updateBanks n m = mapWorkRam n (mapRom n (mapChrTable n m))

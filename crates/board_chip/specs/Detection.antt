@@ -1,4 +1,4 @@
--- 01 "Load, detection and banking": which board it is, and what that says of work RAM.
+-- L6, L13: which board it is, and what that says of work RAM.
 use Prim.Native.Nat.{ℕ, _%_}
 use mathlib.Core.Bool.{Bool, true, false, cond, not, _&&_, _||_}
 use lib.Dec.{eqb}
@@ -7,22 +7,22 @@ use Rattle.board_chip.specs.declared.namco163.Board.the-variants.{Unknow
 use Rattle.board_chip.specs.declared.namco163.Namco163.{Namco163}
 use Rattle.board_chip.specs.Namco163.{is340, withBoard}
 
--- "`maybe_set_board` acts only when detecting and not (340 with PRG-RAM written)"
+-- L6: whether detection acts
 unfoldable pub mayChange : Namco163 → Bool
 mayChange n = n .«auto_detect_board» && (not (n .«prg_ram_written_to») || not (is340 (n .board)))
 
--- the Rust's `maybe_set_board`; where the board is b already, setting it changes nothing
+-- L6: the Rust's `maybe_set_board`; where the board is b already, setting it changes nothing
 unfoldable pub maybeSetBoard : Namco163 → Board → Namco163
 maybeSetBoard n b = cond (mayChange n) (withBoard n b) n
 
--- the Rust's `prg_ram_readable`: whether work RAM is mapped at 6000
+-- L13: the Rust's `prg_ram_readable`, whether work RAM is mapped at 6000
 abbrev pub prgRamReadable : Board → Bool
 prgRamReadable Unknown = false
 prgRamReadable Is163 = true
 prgRamReadable Namco175 = true
 prgRamReadable Namco340 = false
 
--- the Rust's `prg_ram_writable`: whether it takes stores, p being the protect byte
+-- L13: the Rust's `prg_ram_writable`, whether it takes stores, p being the protect byte
 abbrev pub prgRamWritable : Board → ℕ → Bool
 prgRamWritable Unknown p = false
 prgRamWritable Is163 p = true

@@ -1,4 +1,4 @@
--- The registers of a fresh board.
+-- L1 to L4: the registers of a fresh board.
 use Prim.Native.Nat.{ℕ, _/_, _%_}
 use mathlib.Core.Bool.{Bool, true, false, cond, not}
 use lib.Dec.{eqb}
@@ -11,22 +11,22 @@ use Rattle.board_chip.specs.declared.namco163.Board.the-variants.{Unknow
 use Rattle.board_chip.specs.declared.namco163.Namco163.{Namco163}
 use Rattle.board_chip.specs.Reset.{noRegs}
 
--- "Mapper 19 starts as 163"; "Mapper 210 starts as 175 (submapper 1), 340 (2), else Unknown"
+-- L3, L4: the board of a mapper and submapper
 unfoldable pub boardAtLoad : ℕ → ℕ → Board
 boardAtLoad mapper sub =
     cond (eqb mapper 19) Is163 (cond (eqb mapper 210) (cond (eqb sub 1) Namco175 (cond (eqb sub 2) Namco340 Unknown)) Unknown)
 
--- "Mapper 19 starts as 163, detecting if no database entry exists." A 210 of another submapper is detecting even with one. No other mapper
--- is loaded; the Rust's match has an arm for it.
+-- L3, L4: whether it detects; a 210 that is Unknown does so even if the game is known. No other mapper is loaded (N4); the Rust's match has
+-- an arm for it.
 unfoldable pub detectingAtLoad : ℕ → ℕ → Bool → Bool
 detectingAtLoad mapper sub known =
     cond (eqb mapper 19) (not known) (cond (eqb mapper 210) (cond (eqb sub 1) false (cond (eqb sub 2) false true)) false)
 
--- "Flags bit 3 is FourScreen, else bit 0 is Vertical or Horizontal."
+-- L2: the mirroring by the iNES flags
 unfoldable pub mirroringAtLoad : ℕ → Mirroring
 mirroringAtLoad flags = cond (eqb (flags / 8 % 2) 1) FourScreen (cond (eqb (flags % 2) 1) Vertical Horizontal)
 
--- `Namco163::load` but for the mapping: all else is 0, and the sound is `Audio::new`
+-- L1: `Namco163::load` but for the mapping
 unfoldable pub chipAtLoad : ℕ → ℕ → ℕ → Bool → Namco163
 chipAtLoad mapper sub flags known =
     record {

@@ -1,4 +1,4 @@
--- The board's fields, and the board with some of them replaced.
+-- R8: the board's fields, and the board with some of them replaced.
 use Prim.Native.Nat.{ℕ}
 use mathlib.Core.Bool.{Bool, true, false}
 use mathlib.Core.List.{List}
@@ -9,14 +9,14 @@ use Rattle.board_chip.specs.declared.namco163.Board.the-variants.{Unknow
 use Rattle.board_chip.specs.declared.namco163.Regs.{Regs}
 use Rattle.board_chip.specs.declared.namco163.Namco163.{Namco163}
 
--- "The board maps windows of 8,192 (PRG) and 1,024 (CHR) only"
+-- M3: the sizes of the windows
 abbrev pub prgWindow : ℕ
 prgWindow = 8192
 
 abbrev pub chrWindow : ℕ
 chrWindow = 1024
 
--- "board 2 (Unknown, 163, 175, 340)": the number of each case
+-- H1, F16: the number of each board
 abbrev pub boardNum : Board → ℕ
 boardNum Unknown = 0
 boardNum Is163 = 1
@@ -42,7 +42,7 @@ is340 Is163 = false
 is340 Namco175 = false
 is340 Namco340 = true
 
--- ---- the board with one field replaced, and the registers likewise
+-- ---- the board with one field of R8 replaced, and the registers likewise
 
 abbrev pub withBoard : Namco163 → Board → Namco163
 withBoard n b =

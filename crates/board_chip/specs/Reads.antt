@@ -1,4 +1,4 @@
--- What the board itself answers to a CPU read, the Rust's `prg_read` and `prg_peek`: the sound port and the counter. Elsewhere memory
+-- L8: what the board itself answers to a CPU read, the Rust's `prg_read` and `prg_peek`: the sound port and the counter. Elsewhere memory
 -- answers.
 use Prim.Native.Nat.{ℕ, _/_, _%_}
 use mathlib.Core.Bool.{cond}
@@ -9,12 +9,12 @@ use Rattle.board_chip.specs.declared.reads.Served.{Served}
 use Rattle.board_chip.specs.declared.reads.Served.the-variants.{Byte, Nothing}
 use Rattle.board_chip.specs.Namco163.{withAudio}
 
--- the Rust's `Option`: the board's byte, or else d, which memory answers
+-- F3, F16: the Rust's `Option`: the board's byte, or else d, which memory answers
 abbrev pub byteOr : ℕ → Served → ℕ
 byteOr d (Byte b) = b
 byteOr d Nothing = d
 
--- 4800..4FFF the sound byte at the address, 5000..57FF the counter's low byte, 5800..5FFF its high byte, on every board
+-- L8: the same ranges on every board
 unfoldable pub served : Namco163 → ℕ → Served
 served n a =
     cond (ltb a 0x4800) Nothing
@@ -22,6 +22,6 @@ served n a =
     (cond (ltb a 0x5800) (Byte (n .regs .«irq_counter» % 256))
     (cond (ltb a 0x6000) (Byte (n .regs .«irq_counter» / 256)) Nothing)))
 
--- a read of 4800..4FFF moves the sound address on if auto-increment is set, on every board; no other read changes anything
+-- L8, S10: only a read of the sound port can change the board, in its sound address
 unfoldable pub afterRead : Namco163 → ℕ → Namco163
 afterRead n a = cond (ltb a 0x4800) n (cond (ltb a 0x5000) (withAudio n (readOf (n .audio) a .audio)) n)

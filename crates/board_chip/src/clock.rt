@@ -4,7 +4,7 @@ ghost use Rattle.board_chip.specs.Clock.{clockCounter};
 use crate::namco163::Regs;
 
 impl Regs {
-    // One clock of the counter: enabled, it goes up until FFFF, where it stops and pends.
+    // C1: one clock of the counter: enabled, it goes up to FFFF and stops there; reaching FFFF makes the line pending.
     pub fn clock(mut self) -> Regs
         ensures { λ r. ⌜ r ≡ clockCounter self ⌝ }
     {

@@ -31,8 +31,7 @@ impl Board {
 }
 
 impl Namco163 {
-    // Whether detection acts: a game that stores into work RAM while the board looks like a 340 has none of the 163's registers in mind, so
-    // that board is settled until the next reset.
+    // L6: whether detection acts. A 340 whose written flag is set, no matter when, stays a 340 until a reset clears the flag.
     fn may_change(self) -> bool
         ensures { λ r. ⌜ r ≡ mayChange self ⌝ }
     {

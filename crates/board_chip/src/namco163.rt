@@ -1,6 +1,6 @@
 // The fields of the board, as the Rust has them, and the board with one of them replaced.
-ghost use mathlib.Core.Path.{_≡_};
 ghost use Prim.Native.Nat.{_<_};
+ghost use mathlib.Core.Path.{_≡_};
 ghost use Rattle.board_chip.specs.Namco163.{boardNum, is163, is175, is340, withBoard, withMirroring};
 use memory::mirroring::Mirroring;
 use sound::audio::Audio;

@@ -1,6 +1,6 @@
 // What the board itself answers to a CPU read: audio registers and the IRQ counter are not memory.
-ghost use mathlib.Core.Path.{_≡_};
 ghost use Prim.Native.Nat.{_<_};
+ghost use mathlib.Core.Path.{_≡_};
 ghost use Rattle.board_chip.specs.Reads.{served, afterRead};
 use crate::namco163::Namco163;
 

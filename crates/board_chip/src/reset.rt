@@ -34,8 +34,8 @@ impl Regs {
 }
 
 impl Namco163 {
-    // Slots 8..11 show CIRAM bank 0; which bank is as good as another, since a game writes them before it reads a nametable. The page
-    // tables stay as they are until the next remapping.
+    // C7: slots 8..11 are set to CIRAM bank 0; any bank would do, since a game writes them before it reads a nametable. C8: the page tables
+    // show that only once a write makes them anew.
     pub fn reset(self, kind: ResetKind) -> Namco163
         ensures { λ r. ⌜ r ≡ resetChip self kind ⌝ }
     {

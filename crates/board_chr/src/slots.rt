@@ -1,6 +1,6 @@
 // Register writes to 8000..DFFF: CHR and nametable slots, and a 175's protect byte.
-ghost use mathlib.Core.Path.{_≡_};
 ghost use Prim.Native.Nat.{_≤_, _<_};
+ghost use mathlib.Core.Path.{_≡_};
 ghost use Rattle.board_chr.specs.Slots.{setsCiram, writeSlot, writeNametable, writeC000, writeC800};
 use board_chip::namco163::Board;
 use board_chip::namco163::Namco163;
@@ -42,8 +42,8 @@ pub fn write_slot(chip: Namco163, addr: u16, val: u8) -> Namco163
     next
 }
 
-// C000..DFFF after detection. A 210 has no nametable registers: its mirroring is wired, or a 340's comes from E000, and a slot written here
-// would override it.
+// L11: C000..DFFF after detection: a 163's slot, a 175's protect byte, and nothing on the other boards. Only a 163 has registers for its
+// nametables; a 175's mirroring is wired, and a 340's comes from E000.
 fn write_nametable(chip: Namco163, addr: u16, val: u8) -> Namco163
     requires { ⌜ (0x8000 ≤ addr) × (addr < 0xE000) ⌝ }
     ensures { λ r. ⌜ r ≡ writeNametable chip addr val ⌝ }

@@ -1,6 +1,6 @@
 // Register writes to E000..FFFF: PRG banks, and what their high bits and F800 say to each board.
-ghost use mathlib.Core.Path.{_≡_};
 ghost use Prim.Native.Nat.{_<_};
+ghost use mathlib.Core.Path.{_≡_};
 ghost use Rattle.board_prg.specs.Banks.{mirroringE000, detectE000, highBitsE000, writeE000, writeE800, writeF000, writeF800};
 use board_chip::namco163::Board;
 use board_chip::namco163::Namco163;

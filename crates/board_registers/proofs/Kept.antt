@@ -1,4 +1,4 @@
--- A write to 6000..7FFF sets the flag alone.
+-- L11: a write to 6000..7FFF sets the flag alone.
 use mathlib.Core.Path.{_≡_, refl}
 use mathlib.Core.Bool.{Bool, true, false, and-false}
 use Rattle.board_chip.specs.declared.namco163.Namco163.{Namco163}
@@ -6,7 +6,7 @@ use Rattle.board_chip.specs.Namco163.{is340, withWritten}
 use Rattle.board_chip.specs.Detection.{mayChange, maybeSetBoard}
 use Rattle.board_registers.specs.Writes.{writeWorkRam}
 
--- "so its step from 340 to Unknown never happens"
+-- L10: the step from a 340 to Unknown is always refused
 pub never-unknown : (n : Namco163) → writeWorkRam n ≡ withWritten n true
 unfolding writeWorkRam maybeSetBoard mayChange
 never-unknown n = go (is340 (n .board)) refl

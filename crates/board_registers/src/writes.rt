@@ -1,6 +1,6 @@
 // Register writes by their address: 4800..7FFF, and which functions have the rest.
-ghost use mathlib.Core.Path.{_≡_};
 ghost use Prim.Native.Nat.{_≤_, _<_};
+ghost use mathlib.Core.Path.{_≡_};
 ghost use Rattle.board_registers.specs.Writes.{writeSoundData, writeCounterLow, writeCounterHigh, writeWorkRam, writeChip, remaps};
 use board_chip::namco163::Board;
 use board_chip::namco163::Namco163;
@@ -43,7 +43,7 @@ fn write_counter_high(chip: Namco163, val: u8) -> Namco163
     next
 }
 
-// 6000..7FFF: only the flag. The Rust's step from 340 to Unknown never acts, since the flag is set before it.
+// 6000..7FFF: only the flag. The Rust asks for a step from a 340 to Unknown, which the flag, set before it, refuses (L10).
 fn write_work_ram(mut chip: Namco163) -> Namco163
     ensures { λ r. ⌜ r ≡ writeWorkRam chip ⌝ }
 {
@@ -72,7 +72,7 @@ pub fn write_register(chip: Namco163, addr: u16, val: u8) -> Namco163
     }
 }
 
-// Whether a write maps the tables anew: one to 8000..F7FF, also where the register kept its value, or one that changed the board. What is
+// L14: whether a write maps the tables anew: one to 8000..F7FF, whether or not a register changed, or one that changed the board. What is
 // left, the sound port, the counter, work RAM and the port's address, is written far more often than banks are.
 pub fn remaps(old: Board, new: Board, addr: u16) -> bool
     ensures { λ r. ⌜ r ≡ remaps old new addr ⌝ }

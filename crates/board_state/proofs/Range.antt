@@ -143,7 +143,7 @@ port-good s e =
     let h2 = at-most (a .«current_channel») channelMost _ (h1 .1) in
     omega (arith, at-most (a .addr) addressMost _ (h2 .1) .0)
 
--- the state of a refused load meets refusal 2
+-- N21: N2 refuses the state of a refused load
 pub no-state-out : inRange noState ≡ false
 unfolding inRange chipOk noState
 no-state-out = refl

@@ -1,3 +1,3 @@
--- The state, and all that is known of it. What stands in quotes is a sentence of 01, the scope document.
+-- The state, and all that is known of it.
 pub mod State
 pub mod None

@@ -1,4 +1,4 @@
--- The state of a refused load or image.
+-- N21: the state of a refused load or image.
 use mathlib.Core.Bool.{false}
 use lib.ListN.{replicate}
 use Rattle.memory.specs.declared.mirroring.Mirroring.the-variants.{Vertical}
@@ -8,7 +8,7 @@ use Rattle.board_chip.specs.declared.namco163.Board.the-variants.{Unknown}
 use Rattle.board_chip.specs.Reset.{noRegs}
 use Rattle.board_state.specs.declared.State.{State}
 
--- A refused load or image reading was given no state, so it answers one that is out of range: mapper 0, no CIRAM page and all else 0.
+-- N21: a refused load or image reading was given no state; it answers this one, out of range by mapper and CIRAM, and 0 in all else
 unfoldable pub noState : State
 noState =
     record {

@@ -1,5 +1,5 @@
--- 01 "Records": the state, and all that is known of it: when it is in range, as the test that refusal 2 makes and, beside it, as the facts
--- that the test gives; what the types of the fields say; and both together. The sound's part is in sound/specs/Range.antt, the memory's in
+-- R8, R9: the state, and all that is known of it: when it is in range, as the test that N2 makes and, beside it, as the facts that the test
+-- gives; what the types of the fields say; and both together. The sound's part is in sound/specs/Range.antt, the memory's in
 -- memory/specs/Range.antt, and every number in limits/specs/Limits.antt.
 use Prim.Native.Nat.{ℕ, _^_, _≤_, _<_}
 use mathlib.Core.Path.{_≡_}
@@ -15,7 +15,7 @@ use Rattle.sound.specs.Range.{audioOk, InRange as AudioInRange, Typed as AudioT
 use Rattle.board_chip.specs.declared.namco163.Namco163.{Namco163}
 use Rattle.board_state.specs.declared.State.{State}
 
--- ---- the mapper: "mapper 19 or 210"
+-- ---- the mapper: R9
 
 abbrev pub mapperOk : ℕ → Bool
 mapperOk k = eqb k 19 || eqb k 210
@@ -23,7 +23,7 @@ mapperOk k = eqb k 19 || eqb k 210
 abbrev pub MapperIn : ℕ → Type 0
 MapperIn k = (k ≡ 19) ⊎ (k ≡ 210)
 
--- ---- the banks: "PRG banks 0..=63"
+-- ---- the banks: R9
 
 abbrev pub bankTest : List ℕ → ℕ → Bool
 bankTest banks i = leb (getD banks i 0) bankMost
@@ -31,7 +31,7 @@ bankTest banks i = leb (getD banks i 0) bankMost
 abbrev pub BanksIn : List ℕ → Type 0
 BanksIn banks = (i : ℕ) → getD banks i 0 ≤ bankMost
 
--- ---- the registers; the types of the other fields say their range
+-- ---- the registers: R9; the types of the other fields say their range
 
 unfoldable pub chipOk : Namco163 → Bool
 chipOk n =
@@ -44,7 +44,7 @@ pub record ChipInRange (n : Namco163) : Type 0 where
   pub banks : BanksIn (n .«prg_banks»)
   pub audio : AudioInRange (n .audio)
 
--- ---- the state: "2. A state or image field is out of range." is what the test denies
+-- ---- the state: R9; N2 is that the test fails
 
 unfoldable pub inRange : State → Bool
 inRange s =
@@ -55,7 +55,7 @@ pub record InRange (s : State) : Type 0 where
   pub chip : ChipInRange (s .chip)
   pub memory : MemoryInRange (s .memory)
 
--- ---- what the types of the fields say of every state
+-- ---- what the types of the fields say of every state: R8
 
 pub record ChipTyped (n : Namco163) : Type 0 where
   pub counter : n .regs .«irq_counter» < 2 ^ 16

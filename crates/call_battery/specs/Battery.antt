@@ -1,4 +1,4 @@
--- The battery: what each call answers and alters, refused calls too.
+-- The battery, C9: what each call answers and alters, refused calls too.
 use Prim.Native.Nat.{ℕ}
 use mathlib.Core.List.{List}
 use lib.ListN.{length, take, drop}
@@ -12,16 +12,16 @@ use Rattle.call_answers.specs.declared.Altered.{Altered}
 use Rattle.call_refusals.specs.Refusals.{unlessRefused, unlessKept, batteryChecks}
 use Rattle.board_state.specs.State.{withChip}
 
--- "`sync_battery` copies the sound RAM into the battery's part of the arena and touches nothing before or behind it"
+-- C9: the sound RAM at the reserve's first bytes; every other byte of the arena stays
 unfoldable pub syncArena : State → List ℕ → List ℕ
 syncArena s arena =
     unlessKept (batteryChecks s (length arena)) arena (overlay arena (regionIn (s .memory) BatteryExt .start) (s .chip .audio .ram))
 
--- the 128 bytes of the battery's part
+-- C9: the reserve's first 128 bytes
 abbrev pub batteryBytes : State → List ℕ → List ℕ
 batteryBytes s arena = take 128 (drop (regionIn (s .memory) BatteryExt .start) arena)
 
--- "`restore_battery` goes back": the sound RAM, and nothing else
+-- C9: these bytes as the sound RAM, and nothing else
 unfoldable pub restoreState : State → List ℕ → Altered
 restoreState s arena =
     let chip = s .chip in

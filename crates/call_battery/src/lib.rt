@@ -1,12 +1,12 @@
-// The battery: the sound RAM to its part of the arena, and back.
+// The battery, C9: the sound RAM to its part of the arena, and back.
 use board_state::State;
 use call_answers::Altered;
 use call_refusals::battery_refusal;
 use memory::layout::Src;
 use memory_bytes::bytes::copy;
 use sound::audio::Audio;
-ghost use mathlib.Core.Path.{_≡_};
 ghost use Prim.Native.Nat.{_+_, _≤_};
+ghost use mathlib.Core.Path.{_≡_};
 ghost use lib.ListN.{length, take, drop};
 ghost use Rattle.memory.specs.declared.layout.Src.the-variants.{BatteryExt};
 ghost use Rattle.memory_bytes.specs.Bytes.{overlay};
@@ -44,7 +44,7 @@ fn get_ram(part: &[u8]) -> [u8; Audio::RAM_SIZE]
     ram
 }
 
-// Lends the 128 bytes of the arena from a place on to the copy.
+// F6: lends the 128 bytes of the arena from a place on to the copy.
 fn put_battery(arena: &mut [u8], at: usize, audio: Audio)
     requires { ⌜ at + 128 ≤ length (now arena) ⌝ }
     ensures { λ _. ⌜ now (arena .exit) ≡ overlay (now (arena .entry)) at (audio .ram) ⌝ }
@@ -61,8 +61,8 @@ fn get_battery(arena: &[u8], at: usize) -> [u8; Audio::RAM_SIZE]
     get_ram(&arena[at..end])
 }
 
-// Copies the sound RAM into the arena's battery part, which belongs behind PRG-RAM in a save file. The chip reads that RAM several times
-// for each sample and so keeps it; it is copied when a host saves. Answers the refusal number.
+// C9: puts the sound RAM into the arena's battery part, which belongs behind PRG-RAM in a save file (M13). The chip reads that RAM several
+// times for each sample and so keeps it; it is copied when a host saves. Answers the refusal number.
 pub fn sync_battery(s: State, arena: &mut [u8]) -> u8
     ensures { λ r. ⌜ (r ≡ firstOf (batteryChecks s (length (now (arena .entry)))))
         × (now (arena .exit) ≡ syncArena s (now (arena .entry))) ⌝ }

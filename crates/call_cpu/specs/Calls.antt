@@ -1,5 +1,5 @@
--- The CPU's calls: what each answers and alters, refused calls too. A refused call's other answer fields are 0, and its state is
--- the one it was given.
+-- The CPU's calls, L7, L8 and L15: what each answers and alters, refused calls too. A refused call's other answer fields are 0, and its
+-- state is the one it was given (N21).
 use Prim.Native.Nat.{ℕ}
 use mathlib.Core.Bool.{cond}
 use mathlib.Core.List.{List}
@@ -16,27 +16,27 @@ use Rattle.call_cpu.specs.declared.calls.Written.{Written}
 use Rattle.call_answers.specs.declared.Peeked.{Peeked}
 use Rattle.call_refusals.specs.Refusals.{unlessRefused, unlessKept, cpuChecks}
 
--- ---- CPU read and peek: "a CPU read is `prg_read`, else `Memory::prg_peek`"
+-- ---- CPU read and peek: L8
 
--- the byte that the board serves, or else the page's
+-- L8: the byte that the board serves, or else the page's
 abbrev pub cpuByte : State → List ℕ → ℕ → ℕ
 cpuByte s arena addr = byteOr (prgPeek arena (s .memory) addr) (served (s .chip) addr)
 
--- "`read_register` hands back the byte and moves the address on if auto-increment is set"
+-- L8, S10: a read of the sound port moves its address, where auto-increment is set
 unfoldable pub cpuRead : State → List ℕ → ℕ → ByteRead
 cpuRead s arena addr =
     unlessRefused (cpuChecks s (length arena) addr) (λ q. record { refusal = q; byte = 0; state = s })
     (record { refusal = 0; byte = cpuByte s arena addr; state = withChip s (afterRead (s .chip) addr) })
 
--- "peek moves nothing"
+-- L8, S10: a peek changes nothing
 unfoldable pub cpuPeek : State → List ℕ → ℕ → Peeked
 cpuPeek s arena addr =
     unlessRefused (cpuChecks s (length arena) addr) (λ q. record { refusal = q; byte = 0 })
     (record { refusal = 0; byte = cpuByte s arena addr })
 
--- ---- CPU write: "a CPU write is `Memory::prg_write`, then `write_register`"
+-- ---- CPU write: L7
 
--- the state after `write_register`
+-- L11, L14: the state after the register step, and the tables where they are made anew
 unfoldable pub writeRegister : State → ℕ → ℕ → State
 writeRegister s addr v =
     let chip = writeChip (s .chip) addr v in
@@ -45,17 +45,17 @@ writeRegister s addr v =
       memory = cond (remaps (s .chip .board) (chip .board) addr) (updateBanks chip (s .memory)) (s .memory);
     }
 
--- a refused write's answer
+-- N21: a refused write's answer
 abbrev pub refusedWrite : State → ℕ → Written
 refusedWrite s q = record { refusal = q; state = s; changed = noChanges }
 
--- "A CPU write answers the PRG and CHR pages whose entries changed, how many changed, and the lowest changed page of each table"
+-- L15: the answer has of each table a mask of what changed, their count and the lowest
 unfoldable pub cpuWrite : State → List ℕ → ℕ → ℕ → Written
 cpuWrite s arena addr v =
     let t = writeRegister s addr v in
     unlessRefused (cpuChecks s (length arena) addr) (refusedWrite s)
     (record { refusal = 0; state = t; changed = changes (s .memory) (t .memory) })
 
--- the store comes first, by the entries before the write
+-- L7: the byte is stored by the table before the write
 unfoldable pub cpuWriteArena : State → List ℕ → ℕ → ℕ → List ℕ
 cpuWriteArena s arena addr v = unlessKept (cpuChecks s (length arena) addr) arena (prgWrite arena (s .memory) addr v)

@@ -1,4 +1,4 @@
-// The CPU's calls: read, peek and write.
+// The CPU's calls: read and peek (L8), and write (L7, L15).
 use board_banking::update_banks;
 use board_chip::reads::Served;
 use board_registers::writes;
@@ -34,7 +34,7 @@ pub struct Written {
     pub changed: Changed,
 }
 
-// The byte at a CPU address: the board's own, or else the page's.
+// L8: the byte at a CPU address: the board's own, or else the page's.
 fn cpu_byte(s: State, arena: &[u8], addr: u16) -> u8
     requires { ⌜ (s .chip .audio .addr < 128) × Backed (s .memory) (now arena) ⌝ }
     ensures { λ r. ⌜ r ≡ cpuByte s (now (arena .entry)) addr ⌝ }
@@ -103,7 +103,7 @@ pub fn cpu_peek(s: State, arena: &[u8], addr: u16) -> Peeked
     }
 }
 
-// The registers after a write, and the tables where they are mapped anew.
+// L11, L14: the registers after a write, and the tables where they are mapped anew.
 fn write_register(s: State, addr: u16, val: u8) -> State
     requires { ⌜ (s .chip .audio .addr < 128) × Sized (s .memory) ⌝ }
     ensures { λ r. ⌜ r ≡ writeRegister s addr val ⌝ }

@@ -1,4 +1,4 @@
-// Load: a cartridge's numbers to a fresh state, and the arena to zeros.
+// Load: a cartridge's numbers to a fresh state (L1 to L5), and the arena to zeros (R5).
 use board_banking::update_banks;
 use board_chip::namco163::Namco163;
 use board_state::State;
@@ -14,7 +14,7 @@ ghost use lib.ListN.{length, replicate};
 ghost use Rattle.memory.specs.Layout.{withinLimits};
 ghost use Rattle.call_load.specs.Cartridge.{memoryAtLoad, freshState, loadAnswer, loadArena, LoadFits};
 
-// A load's answer. Where it is refused, the state is one that no call accepts.
+// N21: a load's answer. Where it is refused, the state is one that no call accepts.
 pub struct Loaded {
     pub refusal: u8,
     pub state: State,
@@ -30,7 +30,7 @@ fn clear(arena: &mut [u8])
     }
 }
 
-// Only the 163 has the sound chip, and so the sound RAM that the battery covers; a 175 and a 340 are mapper 210, which reserves nothing.
+// L5: only the 163 has the sound chip, and so the sound RAM that the battery covers; mapper 210 uses nothing of a reserve.
 fn memory_at_load(mapper: u64, sizes: MemoryLayout) -> Memory
     requires { ⌜ withinLimits sizes ≡ true ⌝ }
     ensures { λ r. ⌜ r ≡ memoryAtLoad mapper sizes ⌝ }

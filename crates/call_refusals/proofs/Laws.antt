@@ -1,5 +1,5 @@
--- "conditions work both ways": a call is accepted exactly where none of its conditions holds, and refused by a number exactly where its
--- condition is the first that holds.
+-- N0: a call is accepted exactly where none of its conditions holds, and a condition that is the first to hold gives its number. That a
+-- number is answered only there is in thm_range/proofs/Decided.antt.
 use Prim.Native.Nat.{ℕ, _+_, _≤_, _<_}
 use mathlib.Core.Path.{_≡_, refl, sym, _∙_}
 use mathlib.Core.Bool.{Bool, true, false, cond}

@@ -1,4 +1,4 @@
-// The refusal number of each kind of call, 0 for accepted.
+// The refusal number of each kind of call, 0 for accepted: N0, N20.
 use board_state::State;
 use board_state::in_range;
 use board_state::mapper_ok;
@@ -33,7 +33,7 @@ pub fn reset_refusal(s: State, kind: u64) -> u8
     2
 }
 
-// Of a state that is known to be in range; so below.
+// Of a state that is known to be in range, as each function `.._known`.
 pub fn arena_refusal_known(s: State, len: usize) -> u8
     requires { ⌜ inRange s ≡ true ⌝ }
     ensures { λ r. ⌜ r ≡ firstOf (arenaChecks s len) ⌝ }
@@ -107,7 +107,7 @@ pub fn battery_refusal(s: State, len: usize) -> u8
     0
 }
 
-// A 163 needs a reserve for its sound RAM; one byte is enough, since a reserve is whole pages.
+// N6: a 163 needs a reserve for its sound RAM; one byte is enough, since a reserve is whole pages.
 fn lacks_reserve(mapper: u64, reserve: u64) -> bool
     ensures { λ r. ⌜ r ≡ (eqb mapper 19 && eqb reserve 0) ⌝ }
 {

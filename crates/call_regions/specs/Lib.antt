@@ -1,2 +1,2 @@
--- What stands in quotes is a sentence of 01, the scope document.
+-- The calls of the PPU, and those on regions.
 pub mod Regions

@@ -1,4 +1,4 @@
--- CHR read and write, and regions: what each call answers and alters, refused calls too. A refused call's other answer fields are 0.
+-- CHR read and write, and regions: what each call answers and alters, refused calls too. A refused call's other answer fields are 0 (N21).
 use Prim.Native.Nat.{ℕ}
 use mathlib.Core.List.{List}
 use lib.ListN.{length}
@@ -9,7 +9,7 @@ use Rattle.call_answers.specs.declared.Peeked.{Peeked}
 use Rattle.call_regions.specs.declared.BatterySpan.{BatterySpan}
 use Rattle.call_refusals.specs.Refusals.{unlessRefused, unlessKept, stateChecks, arenaChecks, fillChecks}
 
--- ---- CHR read and write: "CHR addresses fold modulo 4000"
+-- ---- CHR read and write: M8, M9
 
 unfoldable pub chrRead : State → List ℕ → ℕ → Peeked
 chrRead s arena addr =
@@ -20,14 +20,14 @@ chrRead s arena addr =
 unfoldable pub chrWriteArena : State → List ℕ → ℕ → ℕ → List ℕ
 chrWriteArena s arena addr v = unlessKept (arenaChecks s (length arena)) arena (chrWrite arena (s .memory) addr v)
 
--- ---- regions
+-- ---- regions: M10 to M13
 
--- "Fill copies bytes to a region's start"
+-- M10: the lent bytes over the region's first ones
 unfoldable pub fillArena : State → List ℕ → Src → List ℕ → List ℕ
 fillArena s arena src bytes =
     unlessKept (fillChecks s (length arena) src (length bytes)) arena (fillRegion arena (s .memory) src bytes)
 
--- "`region_peek` and `region_write` wrap, also in ROM; an empty region reads 0 and stores nothing"
+-- M11: the byte at the offset's remainder by the region's length; in a region of no bytes 0, and no store
 unfoldable pub regionRead : State → List ℕ → Src → ℕ → Peeked
 regionRead s arena src offset =
     unlessRefused (arenaChecks s (length arena)) (λ q. record { refusal = q; byte = 0 })
@@ -37,7 +37,7 @@ unfoldable pub regionWriteArena : State → List ℕ → Src → ℕ → ℕ →
 regionWriteArena s arena src offset v =
     unlessKept (arenaChecks s (length arena)) arena (regionWrite arena (s .memory) src offset v)
 
--- "`sram` answers the start and length of PRG-RAM with the used battery bytes behind it"
+-- M13: where PRG-RAM begins, and its length plus the used battery bytes
 unfoldable pub sramAnswer : State → BatterySpan
 sramAnswer s =
     unlessRefused (stateChecks s) (λ q. record { refusal = q; start = 0; len = 0 })

@@ -1,5 +1,5 @@
-// The public calls on the PPU's side and on regions: CHR read and write, fill, `region_peek`, `region_write` and `sram`. None has a
-// `requires`: what does not fit is refused by its number, and nothing is altered.
+// The public calls of the PPU, `chr_read` and `chr_write` (M8, M9), and those on regions, `fill`, `region_peek`, `region_write` and `sram`
+// (M10 to M13). None has a `requires`: what does not fit is refused by its number, and nothing is altered (N0).
 use board_state::State;
 use call_answers::Peeked;
 use call_refusals::arena_refusal;
@@ -12,7 +12,7 @@ ghost use lib.ListN.{length};
 ghost use Rattle.call_refusals.specs.Refusals.{firstOf, arenaChecks, fillChecks};
 ghost use Rattle.call_regions.specs.Regions.{chrRead, chrWriteArena, fillArena, regionRead, regionWriteArena, sramAnswer};
 
-// Where PRG-RAM lies in the arena, with the used battery bytes behind it.
+// M13: where PRG-RAM begins in the arena, and its length plus the used battery bytes.
 pub struct BatterySpan {
     pub refusal: u8,
     pub start: usize,
@@ -50,7 +50,7 @@ pub fn chr_write(s: State, arena: &mut [u8], addr: u16, val: u8) -> u8
     0
 }
 
-// Copies bytes to a region's start. Answers the refusal number.
+// M10: puts the bytes at the first ones of a region. Answers the refusal number.
 pub fn fill(s: State, arena: &mut [u8], src: Src, bytes: &[u8]) -> u8
     ensures { λ r. ⌜ (r ≡ firstOf (fillChecks s (length (now (arena .entry))) src (length (now (bytes .entry)))))
         × (now (arena .exit) ≡ fillArena s (now (arena .entry)) src (now (bytes .entry))) ⌝ }

@@ -1,4 +1,4 @@
--- Reset: what it answers and alters, refused too.
+-- Reset, C7 and C8: what it answers and alters, refused too.
 use Prim.Native.Nat.{ℕ}
 use mathlib.Core.Bool.{cond}
 use lib.Dec.{eqb}
@@ -10,11 +10,11 @@ use Rattle.board_state.specs.State.{withChip}
 use Rattle.call_answers.specs.declared.Altered.{Altered}
 use Rattle.call_refusals.specs.Refusals.{unlessRefused, resetChecks}
 
--- "neither 0 (soft) nor 1 (hard)"
+-- N3: kind 0 is soft; of the accepted ones the other is hard
 abbrev pub kindOf : ℕ → ResetKind
 kindOf kind = cond (eqb kind 0) Soft Hard
 
--- "Board, mirroring, other banks and every page entry stay until the next remapping."
+-- C7, C8: the chip is reset, and the memory stays, its tables too
 unfoldable pub resetState : State → ℕ → Altered
 resetState s kind =
     unlessRefused (resetChecks s kind) (λ q. record { refusal = q; state = s })

@@ -1,4 +1,4 @@
-// Reset, soft and hard.
+// Reset, soft and hard: C7, C8.
 use board_chip::reset::ResetKind;
 use board_state::State;
 use call_answers::Altered;
@@ -15,7 +15,7 @@ fn kind_of(kind: u64) -> ResetKind
     ResetKind::Hard
 }
 
-// Kind 0 is soft, 1 is hard. No page entry changes until the next remapping.
+// Kind 0 is soft, 1 is hard (N3). The page entries stay until a write maps them anew (C8).
 pub fn reset(s: State, kind: u64) -> Altered
     ensures { λ r. ⌜ r ≡ resetState s kind ⌝ }
 {

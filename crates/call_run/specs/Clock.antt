@@ -1,4 +1,4 @@
--- 01 "Clock, reset, battery": the single clock of demand 3, and n clocks of the counter.
+-- C1, C2: the single clock, and n clocks of the counter.
 use Prim.Native.Nat.{ℕ, zero, suc, _+_}
 use mathlib.Core.Bool.{cond}
 use mathlib.Core.Option.{Option, some, none}
@@ -16,11 +16,11 @@ use Rattle.board_chip.specs.Clock.{clockCounter}
 use Rattle.board_state.specs.declared.State.{State}
 use Rattle.board_state.specs.State.{withChip}
 
--- "at 15 it goes to 0, the current channel makes its update .. and `output` is one sample": the sample of one sound clock
+-- C2, S8: the sample of one sound clock, if it makes an update
 unfoldable pub soundSample : Audio → Option Float
 soundSample a = cond (a .disabled) none (cond (eqb (a .«update_counter» + 1) 15) (some (outputOf (soundClock a .out))) none)
 
--- "Then, on a 163 only, one sound clock"
+-- C1, and on a 163 also C2
 unfoldable pub chipClock : Namco163 → Clocked Namco163 Float
 chipClock n =
     let m = withRegs n (clockCounter (n .regs)) in
@@ -29,11 +29,11 @@ chipClock n =
     (record { state = withAudio m (soundClock (n .audio)); sample = soundSample (n .audio); rise = rises })
     (record { state = m; sample = none; rise = rises })
 
--- the same of a state, whose memory a clock leaves
+-- C1, C2: the same of a state, whose memory a clock leaves
 unfoldable pub stateClock : State → Clocked State Float
 stateClock s = let c = chipClock (s .chip) in record { state = withChip s (c .state); sample = c .sample; rise = c .rise }
 
--- n clocks of the counter, and the clock of them, from 1, on which it reached FFFF, or 0
+-- C5: n clocks of the counter, and which of them, the first being 1, was a rise; 0 where none was
 unfoldable pub counterRun : ℕ → Regs → Regs
 counterRun zero r = r
 counterRun (suc n) r = clockCounter (counterRun n r)

@@ -1,11 +1,11 @@
-// One clock of the board, and n clocks of the counter in one step.
+// One clock of the board (C1, C2), and n clocks of the counter in one step.
 use board_chip::namco163::Namco163;
 use board_chip::namco163::Regs;
 ghost use mathlib.Core.Path.{_≡_};
 ghost use Rattle.sound.specs.Range.{InRange};
 ghost use Rattle.call_run.specs.Clock.{chipClock, counterRun, counterRise};
 
-// The board after one clock: the counter, then, on a 163, one sound clock.
+// The chip after one clock: the counter moves (C1), and on a 163 the sound follows (C2).
 pub fn clock(chip: Namco163) -> Namco163
     requires { ⌜ InRange (chip .audio) ⌝ }
     ensures { λ r. ⌜ r ≡ chipClock chip .state ⌝ }
@@ -26,7 +26,7 @@ pub fn clock(chip: Namco163) -> Namco163
 
 pub struct CounterRan {
     pub regs: Regs,
-    // The clock, from 1, on which the counter reached FFFF, or 0.
+    // C5: which clock, the first being 1, was a rise; 0 where none was.
     pub rise: u32,
 }
 

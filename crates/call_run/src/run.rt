@@ -1,4 +1,4 @@
-// The public run.
+// The public run: C4 to C6.
 use crate::clock::run_counter;
 use board_state::State;
 use board_state::in_range;
@@ -15,13 +15,13 @@ ghost use Rattle.sound.specs.Range.{audioOk};
 ghost use Rattle.board_state.specs.State.{inRange};
 ghost use Rattle.call_run.specs.Run.{made, runChecks, runGave, ranOf};
 
-// The most clocks of a run.
+// N10: the most clocks of a run.
 pub const RUN_LIMIT: u64 = 65_536;
 
-// As many samples as a run can make: that many clocks from the greatest update counter.
+// As many samples as a run can make: RUN_LIMIT clocks from the greatest update counter.
 pub const SAMPLES_MOST: usize = 4_370;
 
-// A run's answer: its refusal or 0, the samples made, the clock of the rise, from 1, or 0, and the state.
+// C5: a run's answer: its refusal or 0, the samples made, the clock of the rise, from 1, or 0, and the state.
 pub struct Ran {
     pub refusal: u8,
     pub made: usize,
@@ -29,7 +29,7 @@ pub struct Ran {
     pub state: State,
 }
 
-// How many samples n clocks make.
+// C6: how many samples n clocks make.
 fn samples_made(s: State, n: u32) -> usize
     requires { ⌜ inRange s ≡ true ⌝ }
     ensures { λ r. ⌜ r ≡ made n s ⌝ }

@@ -1,4 +1,4 @@
--- Every list of calls does what the plain machine does, and how its clocks are cut into runs does not show.
+-- C19, D3.1: every list of calls does what the plain machine does, and how its clocks are cut into runs does not show.
 use Prim.Native.Nat.{ℕ, zero, suc, _+_}
 use mathlib.Core.Path.{_≡_, refl, sym, ap, _∙_}
 use mathlib.Core.List.{List, [], _∷_, _++_}

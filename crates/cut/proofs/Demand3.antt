@@ -1,4 +1,4 @@
--- Demand 3, of every board that keeps to a paper whose clock has the counter of mappers 19 and 210.
+-- D3.1 to D3.3, of every board that keeps to a `Paper` whose clock has the counter of mappers 19 and 210.
 use Rattle.cut.specs.Calls.{Board}
 use Rattle.cut.specs.Machine.{Paper}
 use Rattle.cut.specs.Contract.{Keeps, OneRise}

@@ -1,6 +1,6 @@
--- What `AsMachine` rules out: a board of which it holds refuses as the paper does, and each of its calls ends in the machine's state and
--- gives its reply, its samples and its rises. So it holds of no board that refuses too much or too little, idles within a run or alters a
--- refused state.
+-- A5: what `AsMachine` rules out: a board of which it holds refuses as the `Paper` says, and each of its calls ends in the machine's state
+-- and gives its reply, its samples and its rises. So it holds of no board that refuses too much or too little, idles within a run or alters
+-- a refused state.
 use Prim.Native.Nat.{ℕ, zero, suc, _≤_}
 use mathlib.Core.Path.{_≡_, refl, sym, ap, _∙_}
 use mathlib.Core.List.{List, [], _∷_}

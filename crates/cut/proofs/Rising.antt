@@ -1,4 +1,4 @@
--- The counter 0x8000 + n first raises the line after 0x7FFF − n clocks, in every list of calls that leaves it alone.
+-- D3.2: the counter 0x8000 + n first raises the line after 0x7FFF − n clocks, in every list of calls that leaves it alone.
 use Prim.Native.Nat.{ℕ, zero, suc, _+_, _-_, _≤_, _<_}
 use mathlib.Core.Path.{_≡_, refl, sym, ap, _∙_}
 use mathlib.Core.Bool.{Bool, true, false, cond}

@@ -1,20 +1,20 @@
--- What holds after every list of calls: a fact about state and arena that each call keeps, and refusals that never come.
+-- What holds after every list of calls (C11): a fact about state and arena that each call keeps, and refusals that never come.
 use Prim.Native.Nat.{ℕ}
 use mathlib.Core.Path.{_≡_}
 use mathlib.Core.List.{List, [], _∷_}
 use Rattle.cut.specs.Calls.{Call, run, other, Reply, refused, Board, Trace, last, then, Observed}
 
--- each call of a list has arguments of their types
+-- C12: each call of a list has arguments of their types
 abbrev pub AllTyped : {Sample Arg : Type 0} → (Call Sample Arg → Type 0) → List (Call Sample Arg) → Type 0
 AllTyped Typed [] = Unit {0}
 AllTyped Typed (c ∷ calls) = Typed c × AllTyped Typed calls
 
--- no call other than a run is refused by q
+-- C19: no call other than a run is refused by q
 abbrev pub NoReply : {Sample Arg Answer : Type 0} → ℕ → Trace Sample Arg Answer → Type 0
 NoReply q (last w) = Unit {0}
 NoReply q (then w a r t) = (r ≡ refused q → ⊥) × NoReply q t
 
--- and no run
+-- C19: and no run
 abbrev pub NoNumber : ℕ → List ℕ → Type 0
 NoNumber q [] = Unit {0}
 NoNumber q (r ∷ rs) = (r ≡ q → ⊥) × NoNumber q rs

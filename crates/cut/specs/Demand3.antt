@@ -1,4 +1,4 @@
--- What demand 3 claims of a board.
+-- What demand 3 claims of a board: D3.1 to D3.3.
 use Prim.Native.Nat.{ℕ, _+_, _-_, _≤_, _<_}
 use mathlib.Core.Path.{_≡_}
 use mathlib.Core.Bool.{Bool, true, false}
@@ -7,24 +7,23 @@ use Rattle.cut.specs.Calls.{Call, run, other, Board, Observed, start, no
 use Rattle.cut.specs.Machine.{Paper, machine}
 
 module _ {State Sample Arg Answer : Type 0} (board : Board State Sample Arg Answer) where
-  -- what a host notes of a list of calls from the state and arena that a load leaves
+  -- C11: what a host notes of a list of calls from the state and arena that a load leaves
   abbrev pub observed : List (Call Sample Arg) → State → Observed State Sample Arg Answer
   observed calls s = noted board calls (start s)
 
-  -- "Stretch by stretch, samples and rises equal the machine's; so do the other calls' answers and written image bytes, every call's
-  -- refusal number, and at the end each state field and arena byte. An f32 is compared by its bits": samples that are equal here have equal
-  -- bits.
+  -- C19: board and machine agree on every list: in the samples and rises of each stretch, in the other calls' replies, in the refusal
+  -- number of each run, and in the state and arena at the end. Samples that are equal here have equal bits (C20).
   abbrev pub AsMachine : Paper State Sample Arg Answer → Type 0
   AsMachine paper = (calls : List (Call Sample Arg)) (s : State) → observed calls s ≡ machine paper calls (start s)
 
-  -- "every second list from the same load that has the same calls other than runs, with the same arguments in the same order, and as many
-  -- clocks in each of 01's stretches": samples, rises, other calls' replies, end state and arena are the same.
+  -- D3.1, C19: of two lists with the same other calls in the same order, their arguments too, and as many clocks in each stretch, the
+  -- samples, the rises, the other calls' replies and the state and arena at the end are the same.
   abbrev pub CutBlind : Type 0
   CutBlind =
       (calls others : List (Call Sample Arg)) (s : State) → outline (observed calls s .trace) ≡ outline (observed others s .trace)
       → (observed calls s .trace ≡ observed others s .trace) × (observed calls s .state ≡ observed others s .state)
 
-  -- "neither written nor reset": each other call leaves the counter and the line
+  -- D3.2: no other call writes or resets the counter: each leaves the counter and the line
   abbrev pub Untouched : (State → ℕ) → (State → Bool) → List (Call Sample Arg) → Type 0
   Untouched counter line [] = Unit {0}
   Untouched counter line (run n lent ∷ calls) = Untouched counter line calls
@@ -32,10 +31,9 @@ module _ {State Sample Arg Answer : Type 0} (board : Board State Sample Arg Answ
       ((s : State) → (counter (board .other a s .state) ≡ counter s) × (line (board .other a s .state) ≡ line s))
       × Untouched counter line calls
 
-  -- "An enabled counter 0x8000 + n, n below 0x7FFF, line clear, neither written nor reset, first raises the line after exactly 0x7FFF − n
-  -- clocks." The list `first` leads from a load to such a counter. Of the calls after it no other call touches the counter or the line, and
-  -- their accepted runs make `more` clocks. With fewer than 0x7FFF − n they note no rise and leave the line clear. Else they note one, at
-  -- that clock, and the line is up.
+  -- D3.2: the list `first` leads to a counter of 0x8000 + n, n below 0x7FFF, with the line clear. Of the calls after it no other call
+  -- touches the counter or the line, and their accepted runs make `more` clocks. With fewer than 0x7FFF − n they note no rise and leave the
+  -- line clear. Else they note one, at that clock, and the line is up.
   pub record FirstRise (counter : State → ℕ) (line : State → Bool) (first rest : List (Call Sample Arg)) (s : State)
       (n more : ℕ) : Type 0 where
     pub early : more < 0x7FFF - n
@@ -46,6 +44,7 @@ module _ {State Sample Arg Answer : Type 0} (board : Board State Sample Arg Answ
         ≡ allRises (observed first s .trace) ++ (allClocks (observed first s .trace) + (0x7FFF - n)) ∷ [])
         × (line (observed (first ++ rest) s .state) ≡ true)
 
+  -- D3.2 for every `first` and `rest`
   abbrev pub RisesInTime : (State → ℕ) → (State → Bool) → Type 0
   RisesInTime counter line =
       (first rest : List (Call Sample Arg)) (s : State) (n more : ℕ)
@@ -56,7 +55,7 @@ module _ {State Sample Arg Answer : Type 0} (board : Board State Sample Arg Answ
       → allClocks (observed (first ++ rest) s .trace) ≡ allClocks (observed first s .trace) + more
       → FirstRise counter line first rest s n more
 
-  -- demand 3
+  -- D3.3: demand 3 as one statement
   pub record Demand3 (paper : Paper State Sample Arg Answer) (counter : State → ℕ) (line : State → Bool) : Type 0 where
     pub as-machine : AsMachine paper
     pub cut-blind : CutBlind

@@ -1,5 +1,4 @@
--- Demand 3, over any board. Read Calls, Machine, Contract, Counter and Demand3, in this order. What stands in quotes is a sentence of 01,
--- the scope document, or of the demand; docs/PROMISES.md lists them all.
+-- Demand 3 (D3.1 to D3.3, C10 to C20) over any board. Read Calls, Machine, Contract, Counter and Demand3, in this order.
 pub mod Calls
 pub mod Machine
 pub mod Contract

@@ -104,7 +104,7 @@ module _ (mapper sub flags : ℕ) (known : Bool) (sizes : MemoryLayout) (arena :
       ap refusal e
       ∙ number-is (loadChecks mapper sizes (length arena)) (λ q. record { refusal = q; state = noState }) _ refusal refl (λ q. refl)
 
-  -- accepted, as a list of calls starts with it
+  -- C11: accepted, as a list of calls starts with it
   abbrev begun : r .refusal ≡ 0 → Start
   begun z =
       let e = sym load-number ∙ z in

@@ -1,40 +1,38 @@
--- "Refused calls, in checking order": each host call is accepted exactly where none of its conditions holds, and refused by a number
--- exactly where its condition is the first that holds. Refused, its word is that number and what was lent stays; Words.antt says that the
--- number is the answer's low 8 bits in every call.
+-- N0, both ways: each host call is accepted exactly where none of its conditions holds, and refused by a number exactly where its condition
+-- is the first that holds. Refused, its word is that number and what was lent stays; Words.antt says that the number is the answer's low 8
+-- bits in every call.
 use Prim.Native.Nat.{ℕ}
 use mathlib.Core.Path.{_≡_}
 use mathlib.Core.List.{List, [], _∷_}
 use borrow.Author.Needs.{needs}
 use lib.ListN.{length}
 use Rattle.memory.specs.declared.layout.MemoryLayout.{MemoryLayout}
-use Rattle.call_refusals.specs.Refusals.{Check, firstOf, kindCheck, loadChecks}
+use Rattle.call_refusals.specs.Refusals.{firstOf, kindCheck, loadChecks}
 use Rattle.call_refusals.proofs.Laws.{refused-is}
 use Rattle.image_write.specs.Writing.{imageCheck}
 use Rattle.thm_range.proofs.Decided.{Decided, decided}
+use Rattle.thm_range.proofs.Refused.{Refused}
 use Rattle.host_state.specs.HostState.{unaltered, resetGives, readGives, writeGives, runOwn, runGives}
 use Rattle.host.specs.Host.{onImage, stateIn, cpuOwn, loadGives, hostLoad, hostReset, hostRead, hostWrite, hostRun}
 
--- 1, 4, 5, 6, 7
+-- N1, N4, N5, N6, N7
 pub load-decided : (img arena : List ℕ) (mapper : ℕ) (sizes : MemoryLayout)
     → Decided (imageCheck (length img) ∷ loadChecks mapper sizes (length arena))
 load-decided img arena mapper sizes = decided _ (search needs)
 
--- 1, 2, 3
+-- N1, N2, N3
 pub reset-decided : (img : List ℕ) (kind : ℕ) → Decided (onImage img (kindCheck kind ∷ []))
 reset-decided img kind = decided _ (search needs)
 
--- 1, 2, 7, 8, in a read and in a write
+-- N1, N2, N7, N8, in a read and in a write
 pub cpu-decided : (img arena : List ℕ) (addr : ℕ) → Decided (onImage img (cpuOwn (stateIn img) arena addr))
 cpu-decided img arena addr = decided _ (search needs)
 
--- 1, 2, 10, 11
+-- N1, N2, N10, N11
 pub run-decided : (img samples : List ℕ) (n : ℕ) → Decided (onImage img (runOwn (stateIn img) samples n))
 run-decided img samples n = decided _ (search needs)
 
--- ---- "a refused call has all other bits 0"; image, arena and sample bytes as they were
-
-abbrev Refused : List Check → Type 0
-Refused cs = firstOf cs ≡ 0 → ⊥
+-- ---- H6: a refused call's word is its number alone; image, arena and sample bytes as they were
 
 module _ (img arena : List ℕ) (mapper sub flags known : ℕ) (sizes : MemoryLayout) where
   pub load-refused : let cs = imageCheck (length img) ∷ loadChecks mapper sizes (length arena) in

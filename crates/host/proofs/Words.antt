@@ -1,5 +1,5 @@
--- "Each returns 64 bits: refusal in 0..7, 0 for accepted": the low 8 bits of every answer are the number of the first check that holds,
--- 0 where none does, and the parts of an accepted answer stand in their bits, one beside the other.
+-- H6: the low 8 bits of every answer are the number of the first check that holds, 0 where none does, and the parts of an accepted answer
+-- stand in their bits, one beside the other.
 use Prim.Native.Nat.{ℕ, _*_, _/_, _%_, _^_, _<_}
 use mathlib.Core.Path.{_≡_, refl, sym, subst, _∙_}
 use mathlib.Core.Bool.{Bool, true, false, cond}
@@ -31,7 +31,7 @@ use Rattle.host_state.proofs.Laws.{word-of}
 use Rattle.host.specs.Host.{onImage, stateIn, hostLoad, hostReset, cpuOwn, hostRead, hostWrite, hostRun}
 use Rattle.host.proofs.Laws.{known-in}
 
--- ---- the refusal, in bits 0..7
+-- ---- H6: the refusal, in bits 0..7
 
 -- numbers of at most 8 bits
 abbrev Small : List Check → Type 0
@@ -98,7 +98,7 @@ module _ (img : List ℕ) (own : List Check) (numbered : Numbered own) (e : firs
   word-is : (lent : List ℕ) (g : Gives) → unlessRefused (onImage img own) (unaltered img lent) g .word ≡ g .word
   word-is lent g = word-of (accepted-is (onImage img own) (unaltered img lent) g e)
 
--- ---- "a read's byte from bit 8"
+-- ---- H6: a read's byte in bits 8..15
 
 pub read-byte : (img arena : List ℕ) (addr : ℕ) → firstOf (onImage img (cpuOwn (stateIn img) arena addr)) ≡ 0
     → hostRead img arena addr .word / 2 ^ 8 ≡ cpuRead (stateIn img) arena addr .byte
@@ -106,7 +106,7 @@ unfolding hostRead
 read-byte img arena addr e =
     omega (arith, word-is img (cpuOwn (stateIn img) arena addr) (search needs) e arena (readGives (stateIn img) arena addr))
 
--- ---- "a write's CHR mask from bit 8 and PRG mask at its own bits 24..63"
+-- ---- H6: a write's CHR mask in bits 8..23 and its PRG mask in bits 24..63
 
 -- a mask has as many bits as its table has entries
 chr-small : (s : State) (arena : List ℕ) (addr v : ℕ) → Known s → cpuWrite s arena addr v .changed .chr .mask < 2 ^ 16
@@ -131,7 +131,7 @@ write-masks img arena addr v e =
     let small = chr-small s arena addr v (in-image img own (search needs) e) in
     record { chr = omega (arith, w, low, small); prg = omega (arith, w, low, small) }
 
--- ---- "a run's samples from bit 8, rise from bit 32"
+-- ---- H6: a run's count of samples in bits 8..31 and its rise in bits 32..63
 
 pub record Counts (word made rise : ℕ) : Type 0 where
   pub samples : word / 2 ^ 8 % 2 ^ 24 ≡ made

@@ -1,5 +1,5 @@
--- 01 "Host and image": "Load, read, write, run and reset are exported to the C host on numbers and byte slices": what each call answers
--- and leaves on an image, refused calls too. What it does on the image's state is host_state's.
+-- H4 to H6: what each of a C host's five calls answers and leaves on an image, refused calls too. What it does on the image's state is
+-- host_state's.
 use Prim.Native.Nat.{ℕ}
 use mathlib.Core.Bool.{Bool, not}
 use mathlib.Core.List.{List, [], _∷_}
@@ -15,42 +15,42 @@ use Rattle.image_write.specs.Writing.{imageCheck}
 use Rattle.image_read.specs.Reading.{stateOf, fieldsOf, fieldsCheck}
 use Rattle.host_state.specs.HostState.{Gives, unaltered, resetGives, readGives, writeGives, runOwn, runGives}
 
--- a call on an image is refused by 1, then by 2, then by its own checks
+-- N20: a call on an image is refused by N1, then by N2, then by its own checks
 abbrev pub onImage : List ℕ → List Check → List Check
 onImage img own = imageCheck (length img) ∷ fieldsCheck (fieldsOf img) ∷ own
 
--- the state that an accepted image holds
+-- H3: the state that an accepted image holds
 abbrev pub stateIn : List ℕ → State
 stateIn img = stateOf (fieldsOf img)
 
--- ---- load: it writes an image and reads none
+-- ---- load: it writes an image and reads none (H4)
 
--- "A host yes/no is a number, 0 for no and any other for yes."
+-- H5: each number but 0 is yes
 abbrev pub yes : ℕ → Bool
 yes n = not (eqb n 0)
 
--- the sizes of a load
+-- R1: the sizes of a load
 abbrev pub sizesOf : ℕ → ℕ → ℕ → ℕ → ℕ → ℕ → MemoryLayout
 sizesOf rom ram battery chr writable ciram =
     record { «prg_rom» = rom; «prg_ram» = ram; «battery_ext» = battery; chr = chr; «chr_writable» = yes writable; ciram = ciram }
 
--- an accepted load: the image of the fresh state, and the arena filled with zeros
+-- H4, H6: an accepted load: the image of the fresh state, and the arena filled with zeros
 abbrev pub loadGives : List ℕ → ℕ → ℕ → ℕ → ℕ → MemoryLayout → Gives
 loadGives arena mapper sub flags known sizes =
     record { word = 0; image = imageOf (freshState mapper sub flags (yes known) sizes); lent = loadArena mapper sizes arena }
 
--- refused by 1, then by a load's own checks
+-- N20: refused by N1, then by a load's own checks
 unfoldable pub hostLoad : List ℕ → List ℕ → ℕ → ℕ → ℕ → ℕ → MemoryLayout → Gives
 hostLoad img arena mapper sub flags known sizes =
     unlessRefused (imageCheck (length img) ∷ loadChecks mapper sizes (length arena)) (unaltered img arena)
     (loadGives arena mapper sub flags known sizes)
 
--- ---- the calls that read an image
+-- ---- the calls that read an image: H4, N20
 
 unfoldable pub hostReset : List ℕ → ℕ → Gives
 hostReset img kind = unlessRefused (onImage img (kindCheck kind ∷ [])) (unaltered img []) (resetGives (stateIn img) kind)
 
--- 7 and 8
+-- N7 and N8
 abbrev pub cpuOwn : State → List ℕ → ℕ → List Check
 cpuOwn s arena addr = arenaCheck (arenaLen (s .memory .layout)) (length arena) ∷ addressCheck addr ∷ []
 

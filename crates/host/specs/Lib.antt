@@ -1,2 +1,2 @@
--- What the five host calls answer and leave. What stands in quotes is a sentence of 01, the scope document.
+-- What the five host calls answer and leave.
 pub mod Host

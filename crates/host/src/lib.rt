@@ -1,4 +1,4 @@
-// The five calls of the C host. Each answers 64 bits, with its refusal number in the low 8, 0 for accepted.
+// The five calls of the C host (H4). Each answers 64 bits, with its refusal number in the low 8, 0 for accepted (H6).
 use call_load::load;
 use host_state::read_on;
 use host_state::reset_on;
@@ -11,7 +11,7 @@ use memory::layout::MemoryLayout;
 ghost use mathlib.Core.Path.{_≡_};
 ghost use Rattle.host.specs.Host.{sizesOf, hostLoad, hostReset, hostRead, hostWrite, hostRun};
 
-// A fresh state for a cartridge, and its arena filled with zeros. Sizes are in bytes; `in_database` and `chr_ram` are 0 for no.
+// A fresh state for a cartridge, and its arena filled with zeros. Sizes are in bytes; `in_database` and `chr_ram` are 0 for no (H5).
 #[no_mangle]
 pub extern "C" fn namco163_load(
     image: &mut [u8],
@@ -54,7 +54,7 @@ pub extern "C" fn namco163_load(
     0
 }
 
-// Kind 0 is soft, 1 is hard.
+// Kind 0 is soft, 1 is hard (N3).
 #[no_mangle]
 pub extern "C" fn namco163_reset(image: &mut [u8], kind: u64) -> u64
     ensures { λ r. ⌜ r ≡ hostReset (now (image .entry)) kind .word ⌝ }
@@ -68,7 +68,7 @@ pub extern "C" fn namco163_reset(image: &mut [u8], kind: u64) -> u64
     reset_on(s, kind, image)
 }
 
-// The byte at a CPU address, from bit 8.
+// The byte at a CPU address, in bits 8..15 (H6).
 #[no_mangle]
 pub extern "C" fn namco163_read(image: &mut [u8], arena: &[u8], addr: u16) -> u64
     ensures { λ r. ⌜ r ≡ hostRead (now (image .entry)) (now (arena .entry)) addr .word ⌝ }
@@ -82,7 +82,7 @@ pub extern "C" fn namco163_read(image: &mut [u8], arena: &[u8], addr: u16) -> u6
     read_on(s, arena, addr, image)
 }
 
-// The changed page entries: CHR from bit 8, PRG at their own bits 24..63.
+// The changed page entries: those of CHR in bits 8..23, those of PRG in bits 24..63 (H6).
 #[no_mangle]
 pub extern "C" fn namco163_write(image: &mut [u8], arena: &mut [u8], addr: u16, val: u8) -> u64
     ensures { λ r. ⌜ r ≡ hostWrite (now (image .entry)) (now (arena .entry)) addr val .word ⌝ }
@@ -97,7 +97,7 @@ pub extern "C" fn namco163_write(image: &mut [u8], arena: &mut [u8], addr: u16, 
     write_on(s, arena, addr, val, image)
 }
 
-// Runs so many clocks: samples made from bit 8, the clock of the rise from bit 32.
+// Runs so many clocks: samples made in bits 8..31, the clock of the rise in bits 32..63 (H6).
 #[no_mangle]
 pub extern "C" fn namco163_run(image: &mut [u8], samples: &mut [u8], clocks: u64) -> u64
     ensures { λ r. ⌜ r ≡ hostRun (now (image .entry)) (now (samples .entry)) clocks .word ⌝ }

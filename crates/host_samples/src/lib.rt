@@ -1,4 +1,4 @@
-// A run for the host: its samples into a buffer, and from there to the host's bytes.
+// A run for the host: its samples into a buffer, and from there to the host's bytes (H7).
 use board_state::State;
 use call_run::run::Ran;
 use call_run::run::run_known;
@@ -49,7 +49,7 @@ fn at_most(room: usize, places: usize) -> usize
     places
 }
 
-// A run with room for a sample in each 4 of so many bytes, into a buffer that holds all that it can make.
+// N11: a run with room for a sample in each 4 of so many bytes, into a buffer that holds all that it can make.
 pub fn run_into(s: State, n: u64, bytes: usize, buf: &mut [f32]) -> Ran
     requires { ⌜ Known s × HoldsRun s n (length (now buf)) ⌝ }
     ensures { λ r. ⌜ (r ≡ ranOf (runIn s n (bytes / 4) (now (buf .entry))))

@@ -1,5 +1,5 @@
--- 01 "Host and image": what each call of the host answers and leaves on a state, once its image is read: `..Gives` where it is accepted,
--- `..On` refused or not.
+-- H4, H6: what each call of the host answers and leaves on a state, once its image is read: `..Gives` where it is accepted, `..On` refused
+-- or not.
 use Prim.Native.Nat.{ℕ, _+_, _*_, _/_, _^_}
 use mathlib.Core.List.{List, [], _∷_, _++_}
 use lib.ListN.{length, drop}
@@ -13,17 +13,17 @@ use Rattle.cut.specs.Contract.{lastOr}
 use Rattle.call_run.specs.Run.{clocks, lengthCheck, roomCheck}
 use Rattle.host_samples.specs.Samples.{sampleBytes}
 
--- The 64 bits that a call returns, the image afterwards, and the other bytes that it was lent: the arena or the sample bytes.
+-- H4, H6: the 64 bits that a call returns, the image afterwards, and the other bytes that it was lent: the arena or the sample bytes.
 pub record Gives : Type 0 where
   pub word : ℕ
   pub image : List ℕ
   pub lent : List ℕ
 
--- "refusal in 0..7, 0 for accepted; a refused call has all other bits 0", and it leaves what was lent unaltered
+-- H6, N0: a refused call's word is its number alone, and what was lent stays
 abbrev pub unaltered : List ℕ → List ℕ → ℕ → Gives
 unaltered img lent q = record { word = q; image = img; lent = lent }
 
--- ---- reset
+-- ---- reset: C7, H6
 
 abbrev pub resetGives : State → ℕ → Gives
 resetGives s kind = record { word = 0; image = imageOf (resetState s kind .state); lent = [] }
@@ -31,16 +31,16 @@ resetGives s kind = record { word = 0; image = imageOf (resetState s kind .state
 abbrev pub resetOn : State → List ℕ → ℕ → Gives
 resetOn s img kind = unlessRefused (resetChecks s kind) (unaltered img []) (resetGives s kind)
 
--- ---- CPU read and write
+-- ---- CPU read and write: L7, L8, H6
 
--- "a read's byte from bit 8"
+-- H6: the byte in bits 8..15
 abbrev pub readGives : State → List ℕ → ℕ → Gives
 readGives s arena addr = let r = cpuRead s arena addr in record { word = r .byte * 2 ^ 8; image = imageOf (r .state); lent = arena }
 
 abbrev pub readOn : State → List ℕ → List ℕ → ℕ → Gives
 readOn s img arena addr = unlessRefused (cpuChecks s (length arena) addr) (unaltered img arena) (readGives s arena addr)
 
--- "a write's CHR mask from bit 8 and PRG mask at its own bits 24..63"
+-- H6: the CHR mask in bits 8..23, and the PRG mask where its own bits stand, which begin at 24 (L15)
 abbrev pub writeGives : State → List ℕ → ℕ → ℕ → Gives
 writeGives s arena addr v =
     let w = cpuWrite s arena addr v in
@@ -49,13 +49,14 @@ writeGives s arena addr v =
 abbrev pub writeOn : State → List ℕ → List ℕ → ℕ → ℕ → Gives
 writeOn s img arena addr v = unlessRefused (cpuChecks s (length arena) addr) (unaltered img arena) (writeGives s arena addr v)
 
--- ---- run
+-- ---- run: C4, H6, H7
 
--- 10 and 11: "from a host, whole groups of 4 bytes count"
+-- N10 and N11: each whole group of four sample bytes is a place
 abbrev pub runOwn : State → List ℕ → ℕ → List Check
 runOwn s samples n = lengthCheck n ∷ roomCheck s n (length samples / 4) ∷ []
 
--- n single clocks. "a run's samples from bit 8, rise from bit 32"; the sample bytes behind those of the samples made stay
+-- C4, H6, H7: n single clocks; the count of samples in bits 8..31, the rise in bits 32..63; the sample bytes behind those of the samples
+-- made stay
 abbrev pub runGives : State → List ℕ → ℕ → Gives
 runGives s samples n =
     let t = clocks n s in

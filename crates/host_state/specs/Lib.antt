@@ -1,2 +1,2 @@
--- What the host's calls answer and leave on a state. What stands in quotes is a sentence of 01, the scope document.
+-- What the host's calls answer and leave on a state.
 pub mod HostState

@@ -1,4 +1,4 @@
-// The host's calls on a state: the answer's word, and the image of the state after it.
+// The host's calls on a state (H4): the answer's word (H6), and the image of the state after it.
 use board_state::State;
 use call_cpu::calls::cpu_read_known;
 use call_cpu::calls::cpu_write_known;
@@ -7,8 +7,8 @@ use call_run::run::SAMPLES_MOST;
 use host_samples::put_samples;
 use host_samples::run_into;
 use image_write::writing::put_state;
-ghost use mathlib.Core.Path.{_≡_};
 ghost use Prim.Native.Nat.{_≤_};
+ghost use mathlib.Core.Path.{_≡_};
 ghost use lib.ListN.{length};
 ghost use Rattle.board_state.specs.State.{Known};
 ghost use Rattle.image_write.specs.Image.{imageBytes, imageOf};

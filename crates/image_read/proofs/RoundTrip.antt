@@ -1,5 +1,5 @@
--- The image's promises: "Reading what a state in range was written to gives that state, and writing what an accepted image was read to
--- gives the same" bytes, and an image is accepted exactly where it has `imageBytes` bytes and its fields are in range.
+-- The image's promises: H3, both ways, and an image is accepted exactly where it has `imageBytes` bytes (N1) and its fields are in range
+-- (N2).
 use mathlib.Core.Path.{_≡_, refl, sym, ap, ap₂, _∙_, subst}
 use mathlib.Core.Bool.{true, _&&_}
 use mathlib.Core.List.{List}
@@ -85,7 +85,7 @@ module _ (s : State) (k : Known s) where
   unfolding imageOf
   long = length-bytes imageBytes (pack widths (fields s))
 
-  -- reading what a known state was written to gives that state
+  -- H3: a known state is read back from its image
   pub read-written : readImage (imageOf s) ≡ record { refusal = 0; state = s }
   read-written = accepted (imageOf s) long ok ∙ (λ i. record { refusal = 0; state = state i })
 
@@ -101,7 +101,7 @@ again img b l e =
     (fields-num vs (fit-unpack widths (wordOf img)) (image-known img (and-right m _ e)) (leb-true _ 4 (and-left m _ e)))
     ∙ bytes-back widths imageBytes total-widths img l b
 
--- writing what an accepted image was read to gives the same bytes
+-- H3: an accepted image is written back from its state, byte for byte
 pub written-read : (img : List ℕ) → Bytes img → readImage img .refusal ≡ 0 → imageOf (readImage img .state) ≡ img
 written-read img b e =
     let h = accepted-in-range img e in

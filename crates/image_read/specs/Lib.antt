@@ -1,4 +1,4 @@
--- The state that an image holds. What stands in quotes is a sentence of 01, the scope document.
+-- The state that an image holds.
 pub mod Reading
 pub mod Sections
 pub mod Pages

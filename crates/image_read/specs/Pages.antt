@@ -1,4 +1,4 @@
--- The page tables as they are read, eight entries at a time: eight entries of 11 bits are 11 bytes.
+-- H1: the page tables as they are read, eight entries at a time: eight entries of 11 bits are 11 bytes.
 use Prim.Native.Nat.{ℕ}
 use mathlib.Core.List.{List, _++_}
 use Rattle.bits.specs.Fields.{unpack, times}

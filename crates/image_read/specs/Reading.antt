@@ -1,4 +1,4 @@
--- Image reading: the state that an image's fields make, and which images are accepted.
+-- H1, N1, N2: image reading. The state that an image's fields make, and which images are accepted.
 use Prim.Native.Nat.{ℕ, zero, suc, _*_}
 use mathlib.Core.Bool.{Bool, not, _&&_}
 use mathlib.Core.List.{List, [], _∷_, map}
@@ -27,20 +27,20 @@ use Rattle.image_read.specs.declared.reading.ReadImage.{ReadImage}
 use Rattle.image_write.specs.Image.{part, partWidths, widths}
 use Rattle.image_write.specs.Writing.{imageCheck}
 
--- ---- fields back to what they were made of
+-- ---- fields back to what they were made of: H1
 
 -- a yes/no of its bit: whether it is 1
 abbrev pub isSet : ℕ → Bool
 isSet v = eqb v 1
 
--- "board 2 (Unknown, 163, 175, 340)"
+-- H1: a board by its number
 abbrev pub boardNumbered : ℕ → Board
 boardNumbered zero = Unknown
 boardNumbered (suc zero) = Is163
 boardNumbered (suc (suc zero)) = Namco175
 boardNumbered (suc (suc (suc k))) = Namco340
 
--- "mirroring 3 (Rust's numbers)"; no state has 5, 6 or 7
+-- H1: a mirroring by its number; an image with 5, 6 or 7 is refused (`fieldsOk`)
 abbrev pub mirroringNumbered : ℕ → Mirroring
 mirroringNumbered zero = Vertical
 mirroringNumbered (suc zero) = Horizontal
@@ -48,13 +48,13 @@ mirroringNumbered (suc (suc zero)) = SingleScreenA
 mirroringNumbered (suc (suc (suc zero))) = SingleScreenB
 mirroringNumbered (suc (suc (suc (suc k)))) = FourScreen
 
--- "(page number 10, writable 1)"
+-- H1: entries by page number and flag
 unfoldable pub pagesOf : List ℕ → List Page
 pagesOf [] = []
 pagesOf (n ∷ []) = []
 pagesOf (n ∷ w ∷ vs) = pageOf (1024 * n) (isSet w) ∷ pagesOf vs
 
--- ---- the parts of a list of fields, and the state that they make
+-- ---- the parts of a list of fields, and the state that they make: H1
 
 -- fields in parts of these lengths
 unfoldable pub cutInto : List (List ℕ) → List ℕ → List (List ℕ)
@@ -76,7 +76,7 @@ audioFrom ram port outputs out phases =
       «phase_ext» = phases;
     }
 
--- "counter 16, pending 1, selects low, high 1+1, protect 8"
+-- the registers, the first five fields of the first part
 abbrev pub regsFrom : List ℕ → Regs
 regsFrom regs =
     record {
@@ -136,10 +136,11 @@ stateFrom ps =
 unfoldable pub stateOf : List ℕ → State
 stateOf vs = stateFrom (cutInto partWidths vs)
 
--- ---- which images are accepted
+-- ---- which images are accepted: N1, N2
 
--- "mirroring 0..=4", and the state in range: so a mapper of 19 or 210, an update counter of at most 14, outputs of at most 3825, `out` of
--- at most the bits of 3825, page numbers inside the arena, page counts within the limits and used only with a reserve
+-- R9: the mirroring is at most 4 and the state is in range, so the mapper is 19 or 210, the update counter at most 14, each output at most
+-- 3825, `out` of at most the bits of 3825, each page number that of an arena page, each page count at most R1's, CIRAM at least 1, and the
+-- reserve used only where it has a page
 unfoldable pub fieldsOk : List ℕ → Bool
 fieldsOk vs = leb (getD (part (cutInto partWidths vs) 1) 1 0) 4 && inRange (stateOf vs)
 
@@ -147,15 +148,15 @@ fieldsOk vs = leb (getD (part (cutInto partWidths vs) 1) 1 0) 4 && inRange (stat
 unfoldable pub fieldsOf : List ℕ → List ℕ
 fieldsOf img = unpack widths (wordOf img)
 
--- "2. A state or image field is out of range."
+-- N2: some field is out of range
 abbrev pub fieldsCheck : List ℕ → Check
 fieldsCheck vs = record { number = 2; holds = not (fieldsOk vs) }
 
--- image reading is refused by 1, then 2
+-- N20: image reading is refused by 1, then 2
 abbrev pub readChecks : List ℕ → List Check
 readChecks img = imageCheck (length img) ∷ fieldsCheck (fieldsOf img) ∷ []
 
--- a refused read was given no state: it answers the one that a refused load answers
+-- N21: a refused read was given no state: it answers the one that a refused load answers
 abbrev pub refusedRead : ℕ → ReadImage
 refusedRead q = record { refusal = q; state = noState }
 

@@ -1,4 +1,4 @@
--- The parts of an image as they lie in its bytes, and as the words that the code reads them in.
+-- H1: the parts of an image as they lie in its bytes, and as the words that the code reads them in.
 use Prim.Native.Nat.{ℕ, _-_, _^_, _<_}
 use mathlib.Core.List.{List, [], _∷_, _++_}
 use lib.ListN.{take, drop, replicate}

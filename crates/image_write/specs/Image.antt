@@ -1,5 +1,4 @@
--- 01 "Host and image": the image is "bit-packed, most significant first": the widths of its fields and a state's values for
--- them, in 01's order, as lists of parts. "Arrays go from index 0."
+-- H1, H2: the image. The widths of its fields and a state's values for them, in H1's order, as lists of parts.
 use Prim.Native.Nat.{ℕ, _/_}
 use mathlib.Core.List.{List, [], _∷_, _++_, map}
 use lib.Dec.{eqb}
@@ -19,12 +18,11 @@ use Rattle.board_chip.specs.Namco163.{boardNum}
 use Rattle.board_state.specs.declared.State.{State}
 use Rattle.sound.specs.Levels.{wholePart}
 
--- "The image is 307 bytes"
+-- H1: the length of an image
 abbrev pub imageBytes : ℕ
 imageBytes = 307
 
--- ---- the board: "counter 16, pending 1, selects low, high 1+1, protect 8, board 2 (Unknown, 163, 175, 340), mapper 16, submapper 8,
--- detecting 1, mirroring 3 (Rust's numbers), written 1, CIRAM flags 12, CHR banks 12 times 8, PRG banks 3 times 6"
+-- ---- the board: H1 from bit 0
 
 abbrev pub chipWidths : List (List ℕ)
 chipWidths =
@@ -52,8 +50,7 @@ chipFields n =
     ∷ n .«prg_banks»
     ∷ []
 
--- ---- the sound: "sound RAM 128 times 8, address 7, auto 1, disabled 1, update counter 4, channel 3, outputs 8 times 12, `out` 32,
--- phases 8 times 24"
+-- ---- the sound: H1 from bit 184
 
 abbrev pub soundWidths : List (List ℕ)
 soundWidths = replicate 128 8 ∷ (7 ∷ 1 ∷ 1 ∷ 4 ∷ 3 ∷ []) ∷ replicate 8 12 ∷ (32 ∷ []) ∷ replicate 8 24 ∷ []
@@ -71,8 +68,7 @@ soundFields a =
     ∷ a .«phase_ext»
     ∷ []
 
--- ---- the memory: "entries PRG then CHR 80 times (page number 10, writable 1); pages of PRG-ROM 10, PRG-RAM 7, reserve 1, CHR 9,
--- CHR-RAM flag 1, CIRAM 3, battery used 1"
+-- ---- the memory: H1 from bit 1544
 
 abbrev pub pageWidths : List ℕ
 pageWidths = 10 ∷ 1 ∷ []
@@ -100,9 +96,9 @@ memoryWidths = times prgEntries pageWidths ∷ times chrEntries pageWidths ∷ l
 abbrev pub memoryFields : Memory → List (List ℕ)
 memoryFields m = each pageFields (m .«prg_pages») ∷ each pageFields (m .«chr_pages») ∷ layoutFields m ∷ []
 
--- ---- the whole
+-- ---- the whole: H1
 
--- part k of 01's order
+-- part k of a list of parts
 abbrev pub part : List (List ℕ) → ℕ → List ℕ
 part ps k = getD ps k []
 
@@ -117,7 +113,7 @@ unfoldable pub joined : List (List ℕ) → List ℕ
 joined [] = []
 joined (x ∷ xs) = x ++ joined xs
 
--- the widths of all fields, in 01's order
+-- the widths of all fields, in H1's order
 unfoldable pub widths : List ℕ
 widths = joined partWidths
 
@@ -125,7 +121,7 @@ widths = joined partWidths
 unfoldable pub fields : State → List ℕ
 fields s = joined (partFields s)
 
--- the image of a state: its fields "bit-packed, most significant first"
+-- H1: the image of a state, its fields without gaps, the most significant bit first
 unfoldable pub imageOf : State → List ℕ
 imageOf s = bytesOf imageBytes (pack widths (fields s))
 

@@ -1,4 +1,4 @@
--- The image of a state. What stands in quotes is a sentence of 01, the scope document.
+-- The image of a state.
 pub mod Image
 pub mod Sections
 pub mod Pages

@@ -1,11 +1,11 @@
--- The page tables as they are written, eight entries at a time: eight entries of 11 bits are 11 bytes.
+-- H1: the page tables as they are written, eight entries at a time: eight entries of 11 bits are 11 bytes.
 use Prim.Native.Nat.{ℕ, _*_, _^_, _<_}
 use mathlib.Core.List.{List}
 use lib.ListN.{getD}
 use Rattle.memory.specs.declared.page.Page.{Page}
 use Rattle.memory.specs.Page.{offsetOf, unmapped}
 
--- "(page number 10, writable 1)": the offset of every page with a number of 10 bits is below it
+-- H1: a page number has 10 bits, and the offset of every such page is below this
 abbrev pub offsetLimit : ℕ
 offsetLimit = 2 ^ 10 * 1024
 

@@ -1,4 +1,4 @@
--- Where the sections of an image start, in bytes; `imageBytes` (Image.antt) is the end of the last. src/sections.rt has the same as
+-- H1: where the sections of an image start, in bytes; `imageBytes` (Image.antt) is the end of the last. src/sections.rt has the same as
 -- constants. proofs/Whole.antt `places` says that each starts where the widths of the parts before it end.
 use Prim.Native.Nat.{ℕ}
 

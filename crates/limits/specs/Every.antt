@@ -1,4 +1,4 @@
--- A test of each index below a number.
+-- A test of each index below a number, for the arrays of R9.
 use Prim.Native.Nat.{ℕ, zero, suc}
 use mathlib.Core.Bool.{Bool, true, _&&_}
 

@@ -1,9 +1,9 @@
--- The numbers of "in range", each once. src/lib.rt has the same as constants.
+-- The numbers of R1 and R9, each once. src/lib.rt has as constants those that the code compares with.
 use Prim.Native.Nat.{ℕ, _/_, _^_}
 
--- ---- the sound
+-- ---- the sound: R9
 
--- the update counter: 15 clocks make an update
+-- the update counter: every 15th clock is an update (S1)
 abbrev pub updateMost : ℕ
 updateMost = 14
 
@@ -19,7 +19,7 @@ addressMost = 127
 abbrev pub phaseLimit : ℕ
 phaseLimit = 2 ^ 24
 
--- a channel output: the nibble's 255 at volume 15
+-- a channel output: a byte of 255 at volume 15 (S6)
 abbrev pub levelMost : ℕ
 levelMost = 3825
 
@@ -27,13 +27,13 @@ levelMost = 3825
 abbrev pub outMost : ℕ
 outMost = 0x456F1000
 
--- ---- the registers
+-- ---- the registers: R9
 
 -- a PRG bank
 abbrev pub bankMost : ℕ
 bankMost = 63
 
--- ---- the sizes of a load in bytes
+-- ---- the sizes of a load in bytes: R1
 
 abbrev pub prgRomLimit : ℕ
 prgRomLimit = 524288
@@ -50,7 +50,7 @@ chrLimit = 262144
 abbrev pub ciramLimit : ℕ
 ciramLimit = 4096
 
--- the same in pages
+-- the same in pages (R2)
 
 abbrev pub prgRomPages : ℕ
 prgRomPages = prgRomLimit / 1024
@@ -67,17 +67,17 @@ chrPages = chrLimit / 1024
 abbrev pub ciramPages : ℕ
 ciramPages = ciramLimit / 1024
 
--- ---- the arena
+-- ---- the arena and the page tables
 
--- the battery bytes that a 163 uses: its sound RAM
+-- R9, L5: the battery bytes that a 163 uses: its sound RAM
 abbrev pub usedMost : ℕ
 usedMost = 128
 
--- the longest arena in bytes; `arena-most` says that it is the zero page and each region at its limit
+-- R4: the longest arena in bytes; `arena-most` says that it is the zero page and each region at its limit
 abbrev pub arenaMost : ℕ
 arenaMost = 858112
 
--- how many entries the page tables have
+-- R8: how many entries the page tables have
 abbrev pub prgEntries : ℕ
 prgEntries = 64
 

@@ -1,4 +1,5 @@
-// The numbers that say what is in range, each once: as constants here, by the same names in specs/Limits.antt.
+// The numbers that say what is in range, each once: those that the code compares with here, all of them by the same names in
+// specs/Limits.antt.
 
 // The sound: the update counter, the current channel, the sound port's address, a phase, and the bits of `out`, those of 3825.0.
 pub const UPDATE_MOST: u8 = 14;

@@ -1,5 +1,4 @@
--- 01 "Load, detection and banking": "the PRG and CHR pages whose entries changed, how many changed, and the lowest changed page of each
--- table".
+-- L15: which entries of the two page tables a CPU write changes, as a mask, a number and the least of them.
 use Prim.Native.Nat.{ℕ, suc, _+_, _*_}
 use mathlib.Core.Bool.{Bool, cond}
 use mathlib.Core.List.{List, [], _∷_}
@@ -11,7 +10,7 @@ use Rattle.memory.specs.declared.changes.PrgChanges.{PrgChanges}
 use Rattle.memory.specs.declared.changes.ChrChanges.{ChrChanges}
 use Rattle.memory.specs.declared.page.Page.{Page}
 
--- entries are compared as whole numbers: a change of the flag alone is a change
+-- R6: all 32 bits count, so another flag is another entry
 abbrev pub same : Page → Page → Bool
 same a b = eqb (a .0) (b .0)
 
@@ -31,7 +30,7 @@ countChanged [] new = 0
 countChanged (a ∷ old) [] = 0
 countChanged (a ∷ old) (b ∷ new) = countChanged old new + differ a b
 
--- the first entry that differs, or the table's length where none does: "(64 or 16 for none)"
+-- the first entry that differs; where none does, the table's length, 64 or 16
 unfoldable pub lowestChanged : List Page → List Page → ℕ
 lowestChanged [] new = 0
 lowestChanged (a ∷ old) [] = suc (length old)
@@ -44,11 +43,11 @@ prgChanges old new = record { mask = changed old new; count = countChanged old n
 unfoldable pub chrChanges : List Page → List Page → ChrChanges
 chrChanges old new = record { mask = changed old new; count = countChanged old new; lowest = lowestChanged old new }
 
--- "A CPU write answers the PRG and CHR pages whose entries changed, how many changed, and the lowest changed page of each table"
+-- L15: the answer for both tables
 unfoldable pub changes : Memory → Memory → Changed
 changes old new =
     record { prg = prgChanges (old .«prg_pages») (new .«prg_pages»); chr = chrChanges (old .«chr_pages») (new .«chr_pages») }
 
--- a refused write's answer
+-- N21: a refused write's answer
 abbrev pub noChanges : Changed
 noChanges = record { prg = record { mask = 0; count = 0; lowest = 0 }; chr = record { mask = 0; count = 0; lowest = 0 } }

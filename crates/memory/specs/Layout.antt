@@ -1,4 +1,4 @@
--- 01 "Records": sizes and their limits, page counts, the arena's order and the regions in it.
+-- R1, R2, R4: sizes and their limits, page counts, the arena's order and the regions in it.
 use Prim.Native.Nat.{ℕ, _+_, _*_, _/_, _≤_}
 use mathlib.Core.Bool.{Bool, true, false, cond, not, _&&_}
 use mathlib.Core.List.{List, [], _∷_}
@@ -10,7 +10,7 @@ use Rattle.memory.specs.declared.layout.Region.{Region}
 use Rattle.memory.specs.declared.layout.Src.{Src}
 use Rattle.memory.specs.declared.layout.Src.the-variants.{PrgRom, PrgRam, BatteryExt, Chr, CiRam}
 
--- ---- limits: "PRG-ROM 0..=524,288; PRG-RAM 0..=65,536; battery reserve 0..=1,024; CHR 0..=262,144 ..; CIRAM 0..=4,096"
+-- ---- limits: R1
 
 -- the test on the bytes, before they are rounded
 unfoldable pub withinLimits : MemoryLayout → Bool
@@ -29,12 +29,12 @@ pub record WithinLimits (s : MemoryLayout) : Type 0 where
   pub chr : s .chr ≤ chrLimit
   pub ciram : s .ciram ≤ ciramLimit
 
--- ---- page counts: "Each is rounded up to pages of 1,024 and held as a page count"
+-- ---- page counts: R2, a started page counts as one
 
 abbrev pub pagesFor : ℕ → ℕ
 pagesFor bytes = (bytes + 1023) / 1024
 
--- "CIRAM .., where 0 means 2,048"
+-- R1: no CIRAM stands for 2,048 bytes
 abbrev pub ciramBytes : ℕ → ℕ
 ciramBytes bytes = cond (eqb bytes 0) 2048 bytes
 
@@ -50,9 +50,9 @@ layoutOf s =
       ciram = pagesFor (ciramBytes (s .ciram));
     }
 
--- ---- the arena's order
+-- ---- the arena's order: R4
 
--- the number of each region
+-- F16: the number of each region
 abbrev pub srcNum : Src → ℕ
 srcNum PrgRom = 0
 srcNum PrgRam = 1
@@ -64,8 +64,7 @@ srcNum CiRam = 4
 abbrev pub onlyIf : Bool → Src → List Src → List Src
 onlyIf t s rest = cond t (s ∷ rest) rest
 
--- "Arena order: zero page, PRG-ROM, CHR if ROM, PRG-RAM, battery reserve, CHR if RAM, CIRAM":
--- what follows the zero page, by whether CHR is RAM
+-- R4: the parts behind the zero page in their order, by whether CHR is RAM
 unfoldable pub arenaOrder : Bool → List Src
 arenaOrder ram = PrgRom ∷ onlyIf (not ram) Chr (PrgRam ∷ BatteryExt ∷ onlyIf ram Chr (CiRam ∷ []))
 
@@ -91,7 +90,7 @@ pagesOfAll l (t ∷ rest) = pagesIn l t + pagesOfAll l rest
 unfoldable pub firstPage : Layout → Src → ℕ
 firstPage l s = 1 + pagesBefore l s (arenaOrder (l .«chr_writable»))
 
--- the whole arena, with the zero page: "P .. 52 pages, 53,248 bytes"
+-- the whole arena, with the zero page; T0 has 52 pages for layout P
 unfoldable pub arenaPages : Layout → ℕ
 arenaPages l = 1 + pagesOfAll l (arenaOrder (l .«chr_writable»))
 
@@ -100,7 +99,7 @@ arenaLen l = 1024 * arenaPages l
 
 -- ---- regions
 
--- "The battery region is as long as its used length"; every other is as long as its pages
+-- M12: of the battery as many bytes as are used; of every other region all bytes of its pages
 abbrev pub regionLen : Layout → ℕ → Src → ℕ
 regionLen l used PrgRom = 1024 * l .«prg_rom»
 regionLen l used PrgRam = 1024 * l .«prg_ram»
@@ -108,7 +107,7 @@ regionLen l used BatteryExt = used
 regionLen l used Chr = 1024 * l .chr
 regionLen l used CiRam = 1024 * l .ciram
 
--- "Writable: PRG-RAM, CIRAM, CHR if RAM" (`Memory::is_writable`; the battery region is never mapped)
+-- M4: which regions give the flag (`Memory::is_writable`; the battery region is never mapped)
 abbrev pub writableIn : Layout → Src → Bool
 writableIn l PrgRom = false
 writableIn l PrgRam = true

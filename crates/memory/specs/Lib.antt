@@ -1,4 +1,4 @@
--- The board's memory, over the types that src/ declares. What stands in quotes is a sentence of 01, the scope document.
+-- The board's memory, over the types that src/ declares.
 pub mod Page
 pub mod Layout
 pub mod Memory

@@ -1,4 +1,4 @@
--- The memory without its bytes: its regions and its two tables.
+-- R8: the memory without its bytes: its regions and its two tables.
 use mathlib.Core.List.{List}
 use Rattle.memory.specs.declared.Memory.{Memory}
 use Rattle.memory.specs.declared.layout.Region.{Region}

@@ -3,7 +3,7 @@ use Prim.Native.Nat.{ℕ}
 use Rattle.memory.specs.declared.mirroring.Mirroring.{Mirroring}
 use Rattle.memory.specs.declared.mirroring.Mirroring.the-variants.{Vertical, Horizontal, SingleScreenA, SingleScreenB, FourScreen}
 
--- the Rust's numbers, "mirroring 0..=4"
+-- H1, F16: the Rust's numbers, 0 to 4
 abbrev pub mirroringNum : Mirroring → ℕ
 mirroringNum Vertical = 0
 mirroringNum Horizontal = 1

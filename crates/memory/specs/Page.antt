@@ -1,4 +1,4 @@
--- Page entries: the source's `Page`.
+-- R6: page entries, the Rust's `Page`.
 use Prim.Native.Nat.{ℕ, _+_, _/_, _%_, _^_}
 use mathlib.Core.Bool.{Bool, cond}
 use lib.Dec.{eqb}
@@ -8,11 +8,11 @@ use Rattle.memory.specs.declared.page.Page.{Page}
 abbrev pub hasBit : ℕ → ℕ → Bool
 hasBit k n = eqb (n / 2 ^ k % 2) 1
 
--- 01: "The unmapped entry is 0" (`Page::UNMAPPED`)
+-- R7: the unmapped entry (`Page::UNMAPPED`)
 abbrev pub unmapped : Page
 unmapped = record { 0 = 0 }
 
--- 01: "a byte offset (30 bits) and a writable flag (bit 31)" (`Page::new`)
+-- R6: the offset in bits 0..29, the flag in bit 31 (`Page::new`)
 abbrev pub pageOf : ℕ → Bool → Page
 pageOf o w = record { 0 = cond w (2 ^ 31) 0 + o % 2 ^ 30 }
 

@@ -1,4 +1,4 @@
--- 01 "In range means", of a memory: each part as the test that refusal 2 makes and, beside it, as the facts that the test gives.
+-- R9 of a memory: each part as the test that N2 makes and, beside it, as the facts that the test gives.
 use Prim.Native.Nat.{ℕ, _*_, _%_, _^_, _≤_, _<_}
 use mathlib.Core.Bool.{Bool, false, not, _&&_, _||_}
 use mathlib.Core.List.{List}
@@ -14,7 +14,7 @@ use Rattle.memory.specs.declared.page.Page.{Page}
 use Rattle.memory.specs.Layout.{arenaPages, arenaLen}
 use Rattle.memory.specs.Page.{hasBit, unmapped, offsetOf}
 
--- ---- the layout: "page counts within the limits and CIRAM at least 1 page"
+-- ---- the page counts: R9
 
 unfoldable pub layoutOk : Layout → Bool
 layoutOk l =
@@ -33,7 +33,7 @@ pub record GoodLayout (l : Layout) : Type 0 where
   pub ciram : l .ciram ≤ ciramPages
   pub someCiram : 1 ≤ l .ciram
 
--- ---- the used battery length: "(0 or 128)", "used length 128 only with a reserve"
+-- ---- the used reserve: R9, 0, or 128 where the reserve has a page
 
 unfoldable pub usedOk : ℕ → Layout → Bool
 usedOk used l = eqb used 0 || (eqb used usedMost && leb 1 (l .«battery_ext»))
@@ -41,7 +41,7 @@ usedOk used l = eqb used 0 || (eqb used usedMost && leb 1 (l .«battery_ext»))
 abbrev pub UsedIn : ℕ → Layout → Type 0
 UsedIn used l = (used ≡ 0) ⊎ ((used ≡ usedMost) × (1 ≤ l .«battery_ext»))
 
--- ---- entries: "on page starts inside the arena with bit 30 clear"
+-- ---- entries: R9
 
 -- of an arena of n bytes
 unfoldable pub entryOk : ℕ → Page → Bool
@@ -64,7 +64,7 @@ entryTest n t i = entryOk n (getD t i unmapped)
 abbrev pub TableIn : ℕ → ℕ → List Page → Type 0
 TableIn n k t = (i : ℕ) → i < k → EntryIn n (getD t i unmapped)
 
--- ---- the memory
+-- ---- the memory: R9
 
 unfoldable pub memoryOk : Memory → Bool
 memoryOk m =
@@ -89,7 +89,7 @@ pub record MemoryInRange (m : Memory) : Type 0 where
   pub ranged : Ranged m
   pub used : UsedIn (m .«battery_ext_len») (m .layout)
 
--- ---- what the types say, of every memory
+-- ---- what the types say, of every memory: R8
 
 pub record MemoryTyped (m : Memory) : Type 0 where
   pub prg : length (m .«prg_pages») ≡ prgEntries

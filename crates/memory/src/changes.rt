@@ -1,8 +1,8 @@
 // Which entries of a page table changed: as a mask, how many, and the first.
 use crate::Memory;
 use crate::page::Page;
-ghost use mathlib.Core.Path.{_≡_};
 ghost use Prim.Native.Nat.{_≤_};
+ghost use mathlib.Core.Path.{_≡_};
 ghost use Rattle.memory.specs.Changes.{differ, changed, prgChanges, chrChanges, changes};
 
 pub struct PrgChanges {

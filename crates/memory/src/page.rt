@@ -1,6 +1,6 @@
 // Page entries.
-ghost use mathlib.Core.Path.{_≡_};
 ghost use Prim.Native.Nat.{_^_, _<_};
+ghost use mathlib.Core.Path.{_≡_};
 ghost use Rattle.memory.specs.Page.{pageOf, offsetOf, writableOf};
 
 // An entry of a page table: a byte offset into the arena and a flag.

@@ -1,4 +1,4 @@
-// Whether the layout, the used battery length and the entries are in range.
+// Whether the page counts, the used reserve and the entries are in range: R9.
 use crate::Memory;
 use crate::layout::Layout;
 use crate::page::Page;
@@ -8,8 +8,8 @@ use limits::CIRAM_PAGES;
 use limits::PRG_RAM_PAGES;
 use limits::PRG_ROM_PAGES;
 use limits::USED_MOST;
-ghost use mathlib.Core.Path.{_≡_};
 ghost use Prim.Native.Nat.{_≤_};
+ghost use mathlib.Core.Path.{_≡_};
 ghost use Rattle.limits.specs.Every.{every};
 ghost use Rattle.limits.specs.Limits.{prgEntries, chrEntries, arenaMost};
 ghost use Rattle.memory.specs.Range.{layoutOk, usedOk, entryOk, entryTest, memoryOk};

@@ -12,7 +12,7 @@ use Rattle.memory.specs.declared.layout.Src.the-variants.{PrgRom, PrgRam, Batte
 use Rattle.memory.specs.Layout.{layoutOf, arenaOrder, pagesBefore, firstPage, regionOf}
 use Rattle.memory_bytes.specs.Bytes.{wrappedAt, sramOf}
 
--- layout P with other sizes
+-- layout P (T0) with other sizes
 abbrev cart : ℕ → ℕ → MemoryLayout
 cart prgRom prgRam =
     record { «prg_rom» = prgRom; «prg_ram» = prgRam; «battery_ext» = 128; chr = 8192; «chr_writable» = false; ciram = 2048 }

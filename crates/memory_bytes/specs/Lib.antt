@@ -1,2 +1,2 @@
--- The bytes behind the memory's entries and in its regions. What stands in quotes is a sentence of 01, the scope document.
+-- The bytes behind the memory's entries and in its regions.
 pub mod Bytes

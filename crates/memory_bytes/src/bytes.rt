@@ -3,8 +3,8 @@ use memory::Memory;
 use memory::layout::Region;
 use memory::layout::Src;
 use memory::page::Page;
-ghost use mathlib.Core.Path.{_≡_};
 ghost use Prim.Native.Nat.{_+_, _%_, _^_, _≤_, _<_};
+ghost use mathlib.Core.Path.{_≡_};
 ghost use lib.ListN.{length, getD};
 ghost use Rattle.memory.specs.Memory.{regionIn};
 ghost use Rattle.memory.specs.Range.{Sized};
@@ -87,7 +87,7 @@ pub fn chr_peek(m: Memory, arena: &[u8], addr: u16) -> u8
     page_peek(page, arena, addr)
 }
 
-// Writes a byte of the PPU's address space; CHR-ROM drops it.
+// Writes a byte of the PPU's address space; pages without the flag drop it.
 pub fn chr_write(m: Memory, arena: &mut [u8], addr: u16, val: u8)
     requires { ⌜ Backed m (now arena) ⌝ }
     ensures { λ r. ⌜ now (arena .exit) ≡ chrWrite (now (arena .entry)) m addr val ⌝ }

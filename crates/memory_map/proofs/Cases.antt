@@ -43,7 +43,7 @@ abbrev every : {A : Type 0} → (A → Bool) → List A → Bool
 every f [] = true
 every f (a ∷ l) = f a && every f l
 
--- ---- the carts: layout P with other sizes
+-- ---- the carts: layout P (T0) with other sizes
 
 abbrev cart : ℕ → ℕ → ℕ → MemoryLayout
 cart prgRom prgRam ciram =

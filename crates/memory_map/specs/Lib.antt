@@ -1,4 +1,4 @@
--- What maps the memory's page tables. What stands in quotes is a sentence of 01, the scope document.
+-- What maps the memory's page tables.
 pub mod Windows
 pub mod Mirroring
 pub mod New

@@ -1,4 +1,4 @@
--- `Memory::new`.
+-- L1: `Memory::new`.
 use lib.ListN.{replicate}
 use Rattle.memory.specs.declared.Memory.{Memory}
 use Rattle.memory.specs.declared.layout.MemoryLayout.{MemoryLayout}
@@ -7,7 +7,7 @@ use Rattle.memory.specs.Layout.{layoutOf}
 use Rattle.memory_map.specs.Mirroring.{setMirroring}
 use Rattle.memory.specs.Page.{unmapped}
 
--- page counts, no battery byte used, every entry unmapped
+-- R2, R8: page counts, no battery byte used, every entry unmapped
 unfoldable pub unmappedMemory : MemoryLayout → Memory
 unmappedMemory s =
     record {

@@ -1,4 +1,4 @@
--- 01 "Memory": the mapping of a window, and the flag of its entries.
+-- M1, M2, M5: the mapping of a window, and the flag of its entries.
 use Prim.Native.Nat.{ℕ, zero, suc, _+_, _-_, _*_, _/_, _%_, _^_, max, _≤_, _<_}
 use mathlib.Core.Bool.{Bool, cond}
 use mathlib.Core.List.{List}
@@ -12,7 +12,7 @@ use Rattle.memory.specs.declared.page.Page.{Page}
 use Rattle.memory.specs.Memory.{regionIn, withPrgPages, withChrPages}
 use Rattle.memory.specs.Page.{unmapped, pageOf, offsetOf}
 
--- ---- banks: "banks = max(1, len / s), base = (b modulo banks, never negative) times s"
+-- ---- banks: M1
 
 -- how many whole windows fit
 abbrev pub wholeBanks : ℕ → ℕ → ℕ
@@ -22,7 +22,7 @@ wholeBanks len s = len / s
 unfoldable pub banksOf : ℕ → ℕ → ℕ
 banksOf len s = max 1 (wholeBanks len s)
 
--- b modulo n, never negative: −1 is n − 1 (`negsuc k` is −1 − k; the Rust's `rem_euclid`)
+-- M1: the remainder of b by n is never negative: −1 gives n − 1 (`negsuc k` is −1 − k; the Rust's `rem_euclid`)
 abbrev pub modulo : ℤ → ℕ → ℕ
 modulo (pos k) n = k % n
 modulo (negsuc k) n = n - 1 - k % n
@@ -31,7 +31,7 @@ modulo (negsuc k) n = n - 1 - k % n
 unfoldable pub windowBase : ℕ → ℕ → ℤ → ℕ
 windowBase len s b = modulo b (banksOf len s) * s
 
--- ---- pages: "page i = start + (base + 1,024 times i) modulo len .. An empty region gives unmapped"
+-- ---- pages: M1, and M2 for an empty region
 
 -- the page at offset o of a region
 unfoldable pub regionPage : Region → ℕ → Page
@@ -42,7 +42,7 @@ pub record Shown (r : Region) (base : ℕ) : Type 0 where
   pub reached : r .start + r .len < 2 ^ 30
   pub within : base ≤ r .len
 
--- "`set_prg_writable` keeps the offset and sets the flag, on an unmapped entry too"
+-- M5: the flag as told, the offset as it was; an unmapped entry is no exception
 abbrev pub withFlag : Bool → Page → Page
 withFlag w p = pageOf (offsetOf p) w
 
@@ -61,23 +61,23 @@ pub record WindowSize (s : ℕ) : Type 0 where
   pub some : 1024 ≤ s
   pub small : s ≤ 65536
 
--- "for i from 0 to s / 1,024 − 1": the pages of a region from a base on, in a window of s bytes
+-- M1: the pages of a region from a base on, in the s / 1,024 entries of a window of s bytes
 unfoldable pub showPages : ℕ → Region → ℕ → ℕ → ℕ → List Page → List Page
 showPages k r base s slot = eachPage k (λ i old. regionPage r (base + 1024 * i)) slot (s / 1024)
 
--- `map_pages`: bank b of a region in a window of s bytes
+-- M1: `map_pages`, bank b of a region in a window of s bytes
 unfoldable pub mapPages : ℕ → Region → ℕ → ℤ → ℕ → List Page → List Page
 mapPages k r s b = showPages k r (windowBase (r .len) s b) s
 
--- the window shows nothing: its entries are unmapped
+-- R7: the window shows the zero page: its entries are unmapped
 unfoldable pub unmapPages : ℕ → ℕ → ℕ → List Page → List Page
 unmapPages k s slot = eachPage k (λ i old. unmapped) slot (s / 1024)
 
--- the window's entries take the flag w
+-- M5: the window's entries take the flag w
 unfoldable pub setWritable : ℕ → ℕ → Bool → ℕ → List Page → List Page
 setWritable k s w slot = eachPage k (λ i old. withFlag w old) slot (s / 1024)
 
--- ---- the memory's steps: a table's slot is its address in pages
+-- ---- the memory's steps: M3; a table's slot is its address in pages
 
 -- `Memory::map_prg`
 unfoldable pub mapPrg : Memory → ℕ → ℕ → ℤ → Src → Memory

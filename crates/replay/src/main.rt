@@ -19,7 +19,7 @@ fn main() {
     let mut line = [0u8; 1_048_701];
     // The bytes that a `fill` of the longest line names.
     let mut bytes = [0u8; 524_350];
-    // The largest layout: 838 pages.
+    // The largest arena: 838 pages (R4).
     let mut arena = [0u8; ARENA_MOST];
     // More than twice the longest answer, that of a run.
     let mut out = [0u8; 262_144];

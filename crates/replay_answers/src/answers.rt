@@ -47,7 +47,7 @@ fn spaced(out: &mut [u8], at: usize, n: u64) -> usize {
     put_decimal(out, a, n)
 }
 
-// Two numbers, as of a battery's place.
+// Two numbers: what `sram` answers (M13).
 pub fn pair(out: &mut [u8], at: usize, refusal: u8, first: u64, second: u64) -> usize {
     if refusal != 0 {
         return refused(out, at, refusal);
@@ -58,7 +58,7 @@ pub fn pair(out: &mut [u8], at: usize, refusal: u8, first: u64, second: u64) -> 
     end_line(out, c)
 }
 
-// How many entries of a page table changed, and the first.
+// L15: how many entries of a page table changed, and the lowest of them.
 fn counts(out: &mut [u8], at: usize, count: u32, lowest: u32) -> usize {
     let a = spaced(out, at, count as u64);
     spaced(out, a, lowest as u64)

@@ -1,5 +1,4 @@
--- RFC 1950, 8.2: "s1 is the sum of all bytes, s2 is the sum of all s1 values. Both sums are done modulo 65521. s1 is initialized to 1,
--- s2 to zero. The Adler-32 checksum is stored as s2*65536 + s1".
+-- RFC 1950, 8.2: s1 begins at 1 and adds each byte, s2 begins at 0 and adds each new s1, both modulo 65521. The checksum is s2*65536 + s1.
 use Prim.Native.Nat.{ℕ, _+_, _*_, _%_}
 use mathlib.Core.List.{List, [], _∷_}
 

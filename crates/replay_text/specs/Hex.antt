@@ -1,4 +1,4 @@
--- Hexadecimal digits, "upper case in answers and either case in calls".
+-- Hexadecimal digits: a call may have small letters or capitals, an answer has capitals.
 use Prim.Native.Nat.{ℕ, _+_, _-_, _*_, _/_, _%_}
 use mathlib.Core.Bool.{cond}
 use mathlib.Core.List.{List, [], _∷_, _++_}

@@ -1,4 +1,4 @@
--- "A number is decimal, or hexadecimal after `$`".
+-- Numbers: decimal digits, or a `$` and hexadecimal digits.
 use Prim.Native.Nat.{ℕ, _+_, _*_}
 use mathlib.Core.Bool.{cond}
 use mathlib.Core.List.{List, [], _∷_}

@@ -1,4 +1,4 @@
--- "Words are separated by one space".
+-- The words of a line: between two of them stands a single space.
 use Prim.Native.Nat.{ℕ, zero, suc, _+_, _-_}
 use mathlib.Core.Bool.{cond}
 use mathlib.Core.List.{List, [], _∷_}

@@ -1,6 +1,6 @@
 // Adler-32 of RFC 1950.
-ghost use mathlib.Core.Path.{_≡_};
 ghost use Prim.Native.Nat.{_%_, _<_};
+ghost use mathlib.Core.Path.{_≡_};
 ghost use Rattle.replay_text.specs.Adler.{adler};
 
 const MODULUS: u32 = 65_521;

@@ -1,6 +1,6 @@
 // Hexadecimal digits and pairs of them.
-ghost use mathlib.Core.Path.{_≡_};
 ghost use Prim.Native.Nat.{_≤_, _<_};
+ghost use mathlib.Core.Path.{_≡_};
 ghost use Rattle.replay_text.specs.Hex.{digitOf, glyphOf, decodedOf, decodedTo};
 
 // A digit's value in either case, or 16.

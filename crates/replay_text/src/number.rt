@@ -1,6 +1,6 @@
 // Numbers: decimal, or hexadecimal behind a `$`.
-ghost use mathlib.Core.Path.{_≡_};
 ghost use Prim.Native.Nat.{_<_};
+ghost use mathlib.Core.Path.{_≡_};
 ghost use Rattle.replay_text.specs.Number.{digitsAfter, inBase, numberOf};
 use crate::hex::digit;
 

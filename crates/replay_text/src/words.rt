@@ -1,6 +1,6 @@
 // Words of a line, each behind one space.
-ghost use mathlib.Core.Path.{_≡_};
 ghost use Prim.Native.Nat.{_+_, _≤_};
+ghost use mathlib.Core.Path.{_≡_};
 ghost use lib.ListN.{length, drop};
 ghost use Rattle.replay_text.specs.Words.{isSpace, spacesIn, behind, wordLength, wordAt};
 

@@ -1,4 +1,4 @@
--- The sound chip's state: the one that `Audio::new` makes, and a state with the named fields replaced.
+-- R8, S12: the sound chip's state, the one that `Audio::new` makes, and a state with the named fields replaced.
 use Prim.Native.Nat.{ℕ}
 use mathlib.Core.Bool.{Bool, false}
 use mathlib.Core.List.{List}
@@ -6,7 +6,7 @@ use lib.ListN.{replicate}
 use lib.Ieee.{binary32, ofBits}
 use Rattle.sound.specs.declared.audio.Audio.{Audio}
 
--- all zero, channel 7
+-- S12: the new sound
 abbrev pub fresh : Audio
 fresh =
     record {

@@ -1,4 +1,4 @@
--- Whole numbers as floats, and back. Channel outputs are such floats.
+-- Whole numbers as floats, and back. Channel outputs are such floats: S6, R9.
 use Prim.Native.Nat.{ℕ, _+_, _-_, _/_, _%_, _^_}
 use mathlib.Core.Bool.{cond}
 use lib.Dec.{ltb}
@@ -9,6 +9,6 @@ use lib.Ieee.{Float, binary32, ofInt}
 abbrev pub whole : ℕ → Float
 whole k = ofInt binary32 (pos k)
 
--- the whole part of the float with these bits, for bits of at most those of 3825
+-- H1: the whole part of the float with these bits, for bits of at most those of 3825
 unfoldable pub wholePart : ℕ → ℕ
 wholePart b = cond (ltb b 0x3F800000) 0 ((2 ^ 23 + b % 2 ^ 23) / 2 ^ (150 - b / 2 ^ 23))

@@ -1,5 +1,5 @@
--- When a sound state is in range (01, "Records", "In range means"), as the test that refusal 2 makes and as facts, side by side; and what
--- the types of the fields say of every state. proofs/range/Laws.antt has that the test and the facts say the same.
+-- R9 of a sound state: as the test that N2 makes and as facts, side by side; and what the types of the fields say of every state.
+-- proofs/range/Laws.antt has that the test and the facts say the same.
 use Prim.Native.Nat.{ℕ, _≤_, _<_}
 use mathlib.Core.Path.{_≡_}
 use mathlib.Core.Bool.{Bool, false, not, _&&_}
@@ -13,7 +13,7 @@ use Rattle.limits.specs.Every.{every}
 use Rattle.sound.specs.declared.audio.Audio.{Audio}
 use Rattle.sound.specs.Levels.{whole, wholePart}
 
--- ---- "`out` in 0..=3825": no NaN, and bits of at most those of 3825; so no negative zero, whose bits are 80000000
+-- ---- `out`: R9, no NaN, and bits of at most those of 3825; so no negative zero, whose bits are 80000000
 
 unfoldable pub outOk : Float → Bool
 outOk x = not (isNan x) && leb (toBits binary32 x) outMost
@@ -29,7 +29,7 @@ pub record OutValue (x : Float) : Type 0 where
   pub is : x ≡ fin false mantissa exponent
   pub most : T (le x (whole levelMost))
 
--- ---- "channel outputs whole 0..=3825", so no NaN and no negative zero: the float of its whole part has the same bits
+-- ---- channel outputs: R9, the range of `out`, and the float of its whole part has the same bits
 
 unfoldable pub levelOk : Float → Bool
 levelOk x = outOk x && eqb (toBits binary32 (whole (wholePart (toBits binary32 x)))) (toBits binary32 x)
@@ -46,7 +46,7 @@ outputTest outs i = levelOk (getD outs i nan)
 abbrev pub Levels : List Float → Type 0
 Levels outs = (i : ℕ) → i < 8 → Level (getD outs i nan)
 
--- ---- "phases below 2^24": the test of channel i's phase, and all phases
+-- ---- phases: R9, the test of channel i's phase, and all phases
 
 abbrev pub phaseTest : List ℕ → ℕ → Bool
 phaseTest phases i = ltb (getD phases i 0) phaseLimit
@@ -54,7 +54,7 @@ phaseTest phases i = ltb (getD phases i 0) phaseLimit
 abbrev pub Phases : List ℕ → Type 0
 Phases phases = (i : ℕ) → getD phases i 0 < phaseLimit
 
--- ---- a sound state: "update counter 0..=14, channel 0..=7, sound address 0..=127", the phases, the outputs, `out`
+-- ---- a sound state: R9, the update counter, the channel, the address, the phases, the outputs, `out`
 
 unfoldable pub audioOk : Audio → Bool
 audioOk a =
@@ -73,7 +73,7 @@ pub record InRange (a : Audio) : Type 0 where
   pub outputs : Levels (a .«channel_out»)
   pub mixed : OutInRange (a .out)
 
--- ---- what the types of the fields say of every state
+-- ---- what the types of the fields say of every state: R8
 
 pub record Typed (a : Audio) : Type 0 where
   pub «ram-length» : length (a .ram) ≡ 128

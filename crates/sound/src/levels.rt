@@ -1,7 +1,7 @@
 // Channel outputs are floats that are whole numbers.
 
-ghost use mathlib.Core.Path.{_≡_};
 ghost use Prim.Native.Nat.{_^_, _≤_, _<_};
+ghost use mathlib.Core.Path.{_≡_};
 ghost use Rattle.limits.specs.Limits.{outMost};
 ghost use Rattle.sound.specs.Levels.{wholePart};
 

@@ -1,7 +1,7 @@
 // The sound port: a byte of sound RAM behind an address that can move on by itself.
 
-ghost use mathlib.Core.Path.{_≡_};
 ghost use Prim.Native.Nat.{_<_};
+ghost use mathlib.Core.Path.{_≡_};
 ghost use Rattle.sound.specs.Registers.{advanced, peeked, readOf, written};
 use crate::audio::Audio;
 

@@ -1,5 +1,5 @@
--- Worked values at edges, as they follow from 01's section "Sound". Each line has what a definition gives and what it has to be. The
--- cases of 01's table are in crates/thm_machine/specs/Cases.antt.
+-- Worked values at edges of S2 to S11 and C2. Each line has what a definition gives and what it has to be. The cases of T are
+-- in crates/thm_machine/specs/Cases.antt.
 use Prim.Native.Nat.{ℕ}
 use mathlib.Core.Bool.{Bool, true, _&&_}
 use mathlib.Core.List.{List, [], _∷_, map}
@@ -33,11 +33,11 @@ outputBits bits = toBits binary32 (outputOf (ofBits binary32 bits))
 abbrev pub fast : List ℕ
 fast = set (set (set (replicate 128 0) 0x78 0xFF) 0x7A 0xFF) 0x7C 0xFF
 
--- channel 7 plays nibble 0 at volume 15, so its level is 3720; c is 0
+-- S6: channel 7 plays nibble 0 at volume 15, so its level is 3720; c is 0
 abbrev pub loud : Audio
 loud = withRam fresh (set (replicate 128 0) 0x7F 0x0F)
 
--- `out` for 3, 5 and 7 channels, and samples of 1/3, 1/7, 105, 3720 and 3825
+-- S7, S8: `out` for 3, 5 and 7 channels, and samples of 1/3, 1/7, 105, 3720 and 3825
 abbrev pub mixes : List (ℕ × ℕ)
 mixes =
     (outBits 2 (0 ∷ 0 ∷ 0 ∷ 0 ∷ 0 ∷ 1 ∷ 1 ∷ 0 ∷ []), 0x3F2AAAAB)
@@ -49,14 +49,14 @@ mixes =
     ∷ (outputBits 0x45688000, 0x3EBE76C8) ∷ (outputBits outMost, 0x3EC3D70A)
     ∷ []
 
--- phases at length 4 and frequency 3FFFF, and one beyond a shortened wave
+-- S4: phases at length 4 and frequency 3FFFF, and one that lies behind the end of the wave
 abbrev pub phases : List (ℕ × ℕ)
 phases =
     (nextPhase fast 0x78 0, 0x3FFFF) ∷ (nextPhase fast 0x78 0x3FFFF, 0x3FFFE) ∷ (nextPhase fast 0x78 0x3FFFE, 0x3FFFD)
     ∷ (nextPhase fast 0x78 0xFFFFC, 0x3FFFB)
     ∷ []
 
--- the turn at c = 7, 2, 1 and 0, and nibbles: odd high; address FF is the high nibble of 7F
+-- S2, S5: the turn at c = 7, 2, 1 and 0; the two halves of a byte, and the last nibble of the sound RAM
 abbrev pub turns : List (ℕ × ℕ)
 turns =
     (nextChannel 7 7, 6) ∷ (nextChannel 1 7, 0) ∷ (nextChannel 0 7, 7) ∷ (nextChannel 7 2, 6) ∷ (nextChannel 6 2, 5) ∷ (nextChannel 5 2, 7)
@@ -64,7 +64,7 @@ turns =
     ∷ (nibbleAt (0xA5 ∷ []) 0, 0x5) ∷ (nibbleAt (0xA5 ∷ []) 1, 0xA) ∷ (nibbleAt (set (replicate 128 0) 0x7F 0x9C) 0xFF, 0x9)
     ∷ []
 
--- a write to 7F changes `out` only at the next update: 3720, and 1860 once there are two channels
+-- S7: where sound byte 7F makes two channels of one, `out` stays 3720 up to the next update and is 1860 then
 abbrev pub halved : List (ℕ × ℕ)
 halved =
     let a = soundRun 15 loud in
@@ -72,7 +72,7 @@ halved =
     (toBits binary32 (a .out), 0x45688000) ∷ (toBits binary32 (b .out), 0x45688000) ∷ (toBits binary32 (soundRun 15 b .out), 0x44E88000)
     ∷ []
 
--- F800 = FF, 4800 = 5A: byte 7F is 5A and the address 0. Disabled clocks leave the counter.
+-- S10, S11: F800 = FF, 4800 = 5A, so byte 7F is 5A and the address 0. C2: a clock of a disabled sound does not count.
 abbrev pub ports : List (ℕ × ℕ)
 ports =
     let a = written (written fresh 0xF800 0xFF) 0x4800 0x5A in

@@ -1,4 +1,4 @@
--- One sound clock, after 01's sections "Sound" and "Clock, reset, battery" and the Rust's `update_channel` and `clock`.
+-- C2: one sound clock, the Rust's `update_channel` and `clock`.
 use Prim.Native.Nat.{ℕ, _+_, _-_}
 use mathlib.Core.Bool.{cond}
 use mathlib.Core.List.{List, [], _∷_}
@@ -11,11 +11,11 @@ use Rattle.sound_wave.specs.Channel.{channelCount, baseAddr, nextPhase, levelAt
 use Rattle.sound.specs.Levels.{whole}
 use Rattle.sound_wave.specs.Mix.{mixOf, outputOf}
 
--- channels go 7 downwards, back to 7 below 7 − c: k − 1 is below 7 − c where k + c is below 8
+-- S2: the channel after k; k − 1 is less than 7 − c where k + c is less than 8
 unfoldable pub nextChannel : ℕ → ℕ → ℕ
 nextChannel k c = cond (ltb (k + c) 8) 7 (k - 1)
 
--- the current channel's update: its new phase, its level at the new phase as its output, `out` with that output
+-- S4 to S7: the current channel's update, its phase, its output by the new phase, and `out` by the new outputs
 unfoldable pub updateChannel : Audio → Audio
 updateChannel a =
     let k = a .«current_channel» in
@@ -33,12 +33,12 @@ updateChannel a =
       «phase_ext» = set (a .«phase_ext») k phase;
     }
 
--- the update, and the move to the next channel
+-- C2: the update, and the turn of the next channel
 unfoldable pub updated : Audio → Audio
 unfolding updateChannel
 updated a = withChannel (updateChannel a) (nextChannel (a .«current_channel») (channelCount (a .ram)))
 
--- unless disabled, the update counter goes up by one; at 15 it goes to 0, the current channel makes its update and the channel moves on
+-- C2: a clock of an enabled sound counts, and every 15th updates
 unfoldable pub soundClock : Audio → Audio
 unfolding updated
 soundClock a =
@@ -46,7 +46,7 @@ soundClock a =
     (cond (eqb (a .«update_counter» + 1) 15) (updated (withCounter a 0))
     (withCounter a (a .«update_counter» + 1)))
 
--- the samples of one clock: `output` where it makes an update
+-- C2: the samples of one clock, one where it makes an update
 unfoldable pub clockSamples : Audio → List Float
 unfolding soundClock outputOf
 clockSamples a = cond (a .disabled) [] (cond (eqb (a .«update_counter» + 1) 15) (outputOf (soundClock a .out) ∷ []) [])

@@ -1,4 +1,4 @@
--- A run of sound clocks: n single clocks, and one `output` for each update, in order (01, "Clock, reset, battery").
+-- C4: a run of sound clocks is n single clocks, and its samples are theirs, first to last.
 use Prim.Native.Nat.{ℕ, zero, suc}
 use mathlib.Core.List.{List, [], _++_}
 use lib.Ieee.{Float}

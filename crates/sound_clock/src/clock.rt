@@ -1,14 +1,14 @@
 // The sound clock, as the Rust steps it.
 
-ghost use mathlib.Core.Path.{_≡_};
 ghost use Prim.Native.Nat.{_<_};
+ghost use mathlib.Core.Path.{_≡_};
 ghost use Rattle.sound.specs.Range.{InRange};
 ghost use Rattle.sound_clock.specs.Clock.{nextChannel, soundClock, updateChannel};
 use sound::audio::Audio;
 use sound_wave::channel;
 use sound_wave::mix;
 
-// Channels go 7 downwards, back to 7 below 7 - c.
+// S2: the channel after `k`.
 pub fn next_channel(k: u8, c: u8) -> u8
     requires { ⌜ (k < 8) × (c < 8) ⌝ }
     ensures { λ r. ⌜ (r ≡ nextChannel k c) × (r < 8) ⌝ }

@@ -17,7 +17,7 @@ pub struct SoundRan {
     pub made: usize,
 }
 
-// `n` sound clocks make floor((u + n) / 15) updates, u the update counter. The loop steps from update to update, on one struct in place.
+// C6: how many updates `n` clocks make follows from the update counter. The loop steps from update to update, on one struct in place.
 pub fn run(a: Audio, n: u32, samples: &mut [f32]) -> SoundRan
     requires { ⌜ InRange a ⌝ }
     requires { ⌜ length (samplesOf n a) ≤ length (now samples) ⌝ }

@@ -1,4 +1,4 @@
--- Reads one after another, of the port and of the Rust's `read_register` at 4800.
+-- S10: reads one after another, of the port and of the Rust's `read_register` at 4800.
 use Prim.Native.Nat.{ℕ, zero, suc}
 use mathlib.Core.Bool.{Bool}
 use mathlib.Core.List.{List, [], _∷_}

@@ -1,5 +1,5 @@
--- The sound port as a struct, after 01's section "Sound": `read_register` hands back the byte and moves the address on if auto-increment is
--- set, 7F going to 0. An address of 128 or more stands for its remainder by 128, so nothing is asked of a port.
+-- F2, F14: the sound port as a struct. A read is S10's. An address of 128 or more stands for its remainder by 128, so nothing is asked of a
+-- port.
 use Prim.Native.Nat.{ℕ, _+_, _%_}
 use mathlib.Core.Bool.{cond}
 use lib.ListN.{getD}
@@ -12,11 +12,11 @@ use Rattle.sound_port.specs.declared.lent.PortRead.{PortRead}
 abbrev pub placeOf : Port → ℕ
 placeOf p = p .addr % 128
 
--- the byte that a read hands back
+-- S10: the byte that a read answers
 abbrev pub byteOf : Port → ℕ
 byteOf p = getD (p .ram) (placeOf p) 0
 
--- the port after a read: the address moves on if auto-increment is set, 7F going to 0
+-- S10: the port after a read; behind 7F comes address 0
 unfoldable pub afterRead : Port → Port
 afterRead p =
     record {

@@ -1,4 +1,4 @@
--- Bytes beside what `read_register` gives.
+-- S10: bytes beside what `read_register` gives.
 use Prim.Native.Nat.{ℕ, _+_}
 use mathlib.Core.Bool.{cond}
 use mathlib.Core.List.{List, [], _∷_}

@@ -1,7 +1,7 @@
 // A channel's registers in the sound RAM, its phase and its level.
 
-ghost use mathlib.Core.Path.{_≡_};
 ghost use Prim.Native.Nat.{_%_, _≤_, _<_};
+ghost use mathlib.Core.Path.{_≡_};
 ghost use Rattle.limits.specs.Limits.{levelMost, phaseLimit};
 ghost use Rattle.sound_wave.specs.Channel.{
   baseAddr,
@@ -24,7 +24,7 @@ fn wide(x: u8) -> u32
     x as u32
 }
 
-// Bits 4..6 of sound byte 7F: one less than the channels in use.
+// S2: c, one less than the number of channels in use.
 pub fn channel_count(ram: &[u8; Audio::RAM_SIZE]) -> u8
     ensures { λ r. ⌜ (r ≡ channelCount (now (ram .entry))) × (r < 8) ⌝ }
 {
@@ -70,7 +70,7 @@ pub fn volume(ram: &[u8; Audio::RAM_SIZE], base: usize) -> u8
     ram[base + Audio::REG_VOLUME] % 16
 }
 
-// The nibble at a nibble address: odd ones are high.
+// S5: the nibble at a nibble address, in the high half of its byte for an odd one.
 pub fn nibble(ram: &[u8; Audio::RAM_SIZE], at: usize) -> u8
     requires { ⌜ at < 256 ⌝ }
     ensures { λ r. ⌜ r ≡ nibbleAt (now (ram .entry)) at ⌝ }
@@ -97,7 +97,7 @@ fn reduce(x: u32, end: u32) -> u32
     rest % end
 }
 
-// The phase after one step of the frequency. A phase beyond a shortened wave is only reduced.
+// S4: the phase after one step of the frequency. Where the wave got shorter than the phase, the remainder brings it back.
 pub fn next_phase(ram: &[u8; Audio::RAM_SIZE], base: usize, phase: u32) -> u32
     requires { ⌜ (base ≤ 120) × (phase < phaseLimit) ⌝ }
     ensures { λ r. ⌜ (r ≡ nextPhase (now (ram .entry)) base phase) × (r < phaseLimit) ⌝ }
@@ -107,7 +107,7 @@ pub fn next_phase(ram: &[u8; Audio::RAM_SIZE], base: usize, phase: u32) -> u32
     reduce(phase + step, end)
 }
 
-// A nibble less 8, wrapping in 8 bits, times a volume.
+// S6: a nibble less 8, as a byte that wraps, times a volume.
 pub fn level(nibble: u8, volume: u8) -> u16
     requires { ⌜ volume < 16 ⌝ }
     ensures { λ r. ⌜ (r ≡ levelOf nibble volume) × (r ≤ levelMost) ⌝ }

@@ -1,13 +1,13 @@
 // From channel outputs to one sample.
 
-ghost use mathlib.Core.Path.{_≡_};
 ghost use Prim.Native.Nat.{_+_, _<_};
+ghost use mathlib.Core.Path.{_≡_};
 ghost use lib.Dec.{leb};
 ghost use lib.ListN.{length};
 ghost use Rattle.sound_wave.specs.Mix.{meanOf, mixOf, outputOf, resumOf, sumOf};
 use sound::audio::Audio;
 
-// The f32 sum of channels 7 - c ..= 7.
+// S7: the f32 sum of the outputs of channels 7 - c up to 7.
 pub fn sum(outs: &[f32; Audio::CHANNEL_COUNT], c: u8) -> f32
     requires { ⌜ (length (now outs) ≡ 8) × (c < 8) ⌝ }
     ensures { λ r. ⌜ r ≡ sumOf (now (outs .entry)) c ⌝ }
@@ -29,7 +29,7 @@ pub fn mean(sum: f32, c: u8) -> f32
     sum / ((c + 1) as f32)
 }
 
-// The chip puts out one channel at a time; the mean of the channels in use stands in for that.
+// S7: the mean of the channels in use. The chip itself puts them out one after the other (W21).
 pub fn mix(outs: &[f32; Audio::CHANNEL_COUNT], c: u8) -> f32
     requires { ⌜ (length (now outs) ≡ 8) × (c < 8) ⌝ }
     ensures { λ r. ⌜ r ≡ mixOf (now (outs .entry)) c ⌝ }
@@ -46,7 +46,7 @@ pub fn resum(sum: f32, old: f32, new: f32, k: u8, c: u8) -> f32
     if 7 <= k + c { sum - old + new } else { sum }
 }
 
-// A sample of `out`, at -40 dB.
+// S8: a sample of `out`.
 pub fn output(out: f32) -> f32
     ensures { λ r. ⌜ r ≡ outputOf out ⌝ }
 {

@@ -1,6 +1,6 @@
--- What is promised, as theorems, for a reader who opens one file: each statement is over definitions of specs/, and its proof cites
--- where it is shown. The public calls are contracted by the same definitions (crates/call_*/src, crates/image_*/src, crates/host/src),
--- and none has a `requires`.
+-- What is promised, as theorems, for a reader who opens one file: each statement is over definitions of specs/, and its proof cites where
+-- it is shown. The public calls are contracted by the same definitions (crates/call_*/src, crates/image_*/src, crates/host/src) and have no
+-- `requires`; only functions beside them have one, as the variants `.._known` for a state that is known to be in range.
 use Prim.Native.Nat.{ℕ, _+_, _^_, _<_}
 use mathlib.Core.Path.{_≡_, refl}
 use mathlib.Core.Bool.{false}
@@ -36,7 +36,7 @@ use Rattle.thm_range.specs.Fit.{Fit}
 use Rattle.thm_range.proofs.Lists.{always-fit, never-2-or-7}
 use Rattle.thm_range.proofs.Refused.{other-refused}
 
--- ---- demand 1: an unfit call gets the number of its first check that holds, and leaves state, arena and samples as they were
+-- ---- D1: an unfit call gets the number of its first check that holds, and leaves state, arena and samples as they were
 
 pub demand-1 : (a : Other) (h : Held) → (firstOf (checks a h) ≡ 0 → ⊥)
     → otherGives a h ≡ record { reply = refused (firstOf (checks a h)); state = h }
@@ -46,7 +46,7 @@ pub demand-1-run : (s : State) (n : ℕ) (lent : List Float) → (firstOf (runCh
     → runGave s n lent ≡ record { refusal = firstOf (runChecks s n (length lent)); made = 0; rise = 0; samples = lent; state = s }
 demand-1-run s n lent = refused-run s n lent (firstOf (runChecks s n (length lent))) refl
 
--- of the C calls: the number is the whole word, and image, arena and sample bytes stay
+-- D1, H6 of the C calls: the number is the whole word, and image, arena and sample bytes stay
 pub demand-1-load : (img arena : List ℕ) (mapper sub flags known : ℕ) (sizes : MemoryLayout)
     → let cs = imageCheck (length img) ∷ loadChecks mapper sizes (length arena) in
     (firstOf cs ≡ 0 → ⊥) → hostLoad img arena mapper sub flags known sizes ≡ unaltered img arena (firstOf cs)
@@ -64,8 +64,7 @@ pub demand-1-on-image : (img lent : List ℕ) (addr v kind n : ℕ) → let s = 
 demand-1-on-image img lent addr v kind n =
     (Host.reset-refused img kind, Host.read-refused img lent addr, Host.write-refused img lent addr v, Host.run-refused img lent n)
 
--- ---- demand 2, what of it is a theorem: from every load, after every list, the state is known
--- and the arena fits it, so 2 and 7 never come
+-- ---- D2.1, what of it is a theorem: from every load, after every list, the state is known and the arena fits it, so N2 and N7 never come
 
 pub demand-2 : (l : Loaded) → l .submapper < 2 ^ 8 → (calls : List (Call Float Other)) → AllTyped CallTyped calls
     → Fit (observed board calls (loaded l) .state)
@@ -75,7 +74,7 @@ pub demand-2-refusals : (k : ℕ) → (k ≡ 2) ⊎ (k ≡ 7) → (l : Loaded) �
     → AllTyped CallTyped calls → NeverRefused k (observed board calls (loaded l))
 demand-2-refusals = never-2-or-7
 
--- ---- demand 3: a list is what the plain machine does with it, so how clocks are cut into runs does not show
+-- ---- D3.1, C19: a list is what the plain machine does with it, so how clocks are cut into runs does not show
 
 pub demand-3 : (l : Loaded) (calls : List (Call Float Other)) → observed board calls (loaded l) ≡ machine paper calls (start (zeroed l))
 demand-3 = Machine.as-machine
@@ -86,7 +85,7 @@ pub demand-3-cutting : (l : Loaded) (calls others : List (Call Float Other))
     × (observed board calls (loaded l) .state ≡ observed board others (loaded l) .state)
 demand-3-cutting = Machine.cut-blind
 
--- ---- the counter: 8000 + n with the line clear, left alone, first raises the line after exactly 7FFF − n clocks
+-- ---- D3.2: a counter of 8000 + n with the line clear, left alone, first raises the line on clock 7FFF − n
 
 pub counter-rises : (first rest : List (Call Float Other)) (h : Held) (n more : ℕ) → counterOf (observed board first h .state) ≡ 0x8000 + n
     → n < 0x7FFF → lineOf (observed board first h .state) ≡ false → NoneTouches rest
@@ -94,7 +93,7 @@ pub counter-rises : (first rest : List (Call Float Other)) (h : Held) (n more : 
     → FirstRise board counterOf lineOf first rest h n more
 counter-rises = Machine.first-rise
 
--- ---- the image: what is written is read back, and what is read is written back
+-- ---- H3: what is written is read back, and what is read is written back
 
 pub image-of-state : (s : State) → Known s → readImage (imageOf s) ≡ record { refusal = 0; state = s }
 image-of-state = read-written

@@ -1,4 +1,4 @@
--- The twelve cases, by one computed test over their table; and case 7's 'never'.
+-- T1 to T12 in one computed test (A6), and that the counters of T7 never move.
 use Prim.Native.Nat.{ℕ, _<_}
 use mathlib.Core.Path.{_≡_, refl, ap, _∙_}
 use mathlib.Core.Bool.{Bool, true, false}
@@ -18,6 +18,7 @@ use Rattle.sound.specs.Range.{outOk, levelOk, audioOk}
 use Rattle.sound.specs.Registers.{advanced, written}
 use Rattle.sound_wave.specs.Channel.{nibbleAt, nextPhase, levelAt}
 use Rattle.sound_wave.specs.Mix.{sumFrom, total, sumOf, mixOf, outputOf}
+use Rattle.sound_clock.specs.Cases.{right}
 use Rattle.sound_clock.specs.Clock.{nextChannel, updateChannel, updated, soundClock}
 use Rattle.board_chip.specs.Namco163.{is163}
 use Rattle.board_chip.specs.Detection.{mayChange, maybeSetBoard}
@@ -39,7 +40,7 @@ use Rattle.call_run.proofs.clock.Laws.{low-stops, top-stops, stopped}
 use Rattle.call_run.proofs.run.Laws.{sounds-state, silent-state}
 use Rattle.cut.specs.Counter.{moves, nextCounter, risesFrom}
 use Rattle.cut.specs.Machine.{tick, ticks}
-use Rattle.thm_machine.specs.Cases.{right, table}
+use Rattle.thm_machine.specs.Cases.{table}
 
 pub cases : right table ≡ true
 unfolding right table every withinLimits layoutOf arenaOrder pagesBefore pagesOfAll firstPage arenaPages arenaLen regionOf
@@ -55,7 +56,7 @@ unfolding right table every withinLimits layoutOf arenaOrder pagesBefore pagesOf
     isNan toBits ofBits ofFields ofInt round units odd size span climb add sum mul div
 cases = refl
 
--- "Counters 7FFE and FFFF never move.": nor does any other below 8000
+-- T7: 7FFE and FFFF stay, and so does any other counter below 8000
 pub never-moves : (n : ℕ) (s : State) → (s .chip .regs .«irq_counter» < 0x8000) ⊎ (s .chip .regs .«irq_counter» ≡ 0xFFFF)
     → clocks n s .state .chip .regs ≡ s .chip .regs
 never-moves n s h = by (is163 (s .chip .board)) refl (still h)

@@ -1,4 +1,4 @@
--- The paper's clock has the counter of mappers 19 and 210, on every board.
+-- C1: the clock of `paper` has the counter of mappers 19 and 210, on every board.
 use mathlib.Core.Path.{_≡_, refl, ap}
 use mathlib.Core.Bool.{Bool, true, false, cond}
 use Rattle.cut.specs.Counter.{Counter, risesFrom, nextCounter}

@@ -1,7 +1,7 @@
--- Demand 3, whole, of this board.
+-- D3.1 to D3.3 of this board, by C10 to C20.
 --
--- The board is what the contracts of its public calls give (specs/Board.antt). The paper is 01's single clock, refusals and answers
--- (specs/Paper.antt). The machine that is fed a list and the paper, and the claims, are those of crates/cut: specs/Machine.antt and
+-- The board is what the contracts of its public calls give (specs/Board.antt); `paper` is the scope's single clock, refusals and answers
+-- (specs/Paper.antt). The machine that is fed a list and `paper`, and the claims, are those of crates/cut: specs/Machine.antt and
 -- specs/Demand3.antt.
 use Prim.Native.Nat.{ℕ, _+_, _<_}
 use mathlib.Core.Path.{_≡_}
@@ -22,26 +22,25 @@ use Rattle.thm_machine.proofs.Counter.{counter}
 use Rattle.thm_machine.proofs.Start.{load-starts}
 use Rattle.thm_machine.proofs.Touches.{untouched}
 
--- the one theorem, about lists from every state and arena
+-- D3.3: the one theorem, about lists from every state and arena
 pub demand-3 : Demand3 board paper counterOf lineOf
 unfolding counter
 demand-3 = demand-3-of board paper counter keeps
 
--- "The list starts with an accepted load's state and zeroed arena": what a host observes of any list from there is what the plain machine
--- does
+-- C11, C19: what a host observes of any list from an accepted load is what the plain machine does from a fresh state and zeros
 pub as-machine : (l : Loaded) (calls : List (Call Float Other))
     → observed board calls (loaded l) ≡ machine paper calls (start (zeroed l))
 as-machine l calls = rw (load-starts l) (demand-3 .as-machine calls (zeroed l))
 
--- two lists with the same other calls and as many clocks in each stretch
+-- D3.1: two lists with the same other calls and as many clocks in each stretch
 pub cut-blind : (l : Loaded) (calls others : List (Call Float Other))
     → outline (observed board calls (loaded l) .trace) ≡ outline (observed board others (loaded l) .trace)
     → (observed board calls (loaded l) .trace ≡ observed board others (loaded l) .trace)
     × (observed board calls (loaded l) .state ≡ observed board others (loaded l) .state)
 cut-blind l calls others e = demand-3 .cut-blind calls others (loaded l) e
 
--- "An enabled counter 0x8000 + n, n below 0x7FFF, line clear, neither written nor reset, first raises the line after exactly 0x7FFF − n
--- clocks": the calls `first` lead from any state to such a counter, and those of `rest` make `more` clocks
+-- D3.2: the calls `first` lead from any state to a counter of 0x8000 + n with the line clear, and those of `rest`, none of which writes or
+-- resets it, make `more` clocks
 pub first-rise : (first rest : List (Call Float Other)) (h : Held) (n more : ℕ)
     → counterOf (observed board first h .state) ≡ 0x8000 + n
     → n < 0x7FFF

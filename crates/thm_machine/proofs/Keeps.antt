@@ -1,4 +1,4 @@
--- The board keeps to the paper: its run is n single clocks, and its other calls answer and alter what the paper says.
+-- C16, C17: the board keeps to `paper`: its run is n single clocks, and its other calls answer and alter what `paper` says.
 use Prim.Native.Nat.{ℕ, zero, suc}
 use mathlib.Core.Path.{_≡_, refl, ap}
 use mathlib.Core.Bool.{false}

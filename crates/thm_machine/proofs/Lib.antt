@@ -1,4 +1,4 @@
--- The theorem is in Demand3. Keeps says that the board keeps to the paper, Counter and Touches are on the IRQ counter, Start on an accepted
+-- The theorem is in Demand3. Keeps says that the board keeps to `paper`, Counter and Touches are on the IRQ counter, Start on an accepted
 -- load.
 pub mod Keeps
 pub mod Counter

@@ -1,4 +1,4 @@
--- An accepted load leaves a fresh state and a zeroed arena of the layout's length.
+-- C11: an accepted load leaves a fresh state, and zeros as many as the layout has bytes.
 use mathlib.Core.Path.{_≡_}
 use native.Mathlib.Omega.{arith}
 use borrow.Author.Tests.{not-false, eqb-true}

@@ -1,4 +1,4 @@
--- A call that neither writes the counter nor resets leaves the counter and the line.
+-- D3.2: a call that neither writes the counter nor resets leaves the counter and the line.
 use Prim.Native.Nat.{ℕ, zero, suc, _≤_}
 use mathlib.Core.Path.{_≡_, refl, ap, _∙_}
 use mathlib.Core.Bool.{Bool, true, false, cond, not, _&&_, _||_}
@@ -131,7 +131,7 @@ read n a = either (ltb a 0x4800) n _ (part n) refl (either (ltb a 0x5000) _ n (p
 
 -- ---- calls
 
--- what the paper alters, by the refusal number
+-- what `paper` alters, by the refusal number
 by-number : (q : ℕ) (b : Answered Held Answer) (h : Held) → (q ≡ 0 → part (b .state .state .chip) ≡ part (h .state .chip))
     → part (plainly q b h .state .state .chip) ≡ part (h .state .chip)
 by-number zero b h e = e refl

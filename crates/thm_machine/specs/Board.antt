@@ -1,4 +1,4 @@
--- The board as its functions' contracts give it: what each public call hands back, for every argument and every state and arena.
+-- C19: the board as its functions' contracts give it: what each public call hands back, for every argument and every state and arena.
 use Prim.Native.Nat.{ℕ, zero, suc}
 use mathlib.Core.List.{List}
 use lib.Ieee.{Float}
@@ -15,7 +15,7 @@ use Rattle.call_run.specs.Run.{runGave}
 use Rattle.thm_machine.specs.Calls.{Held, Other, cpuRead, cpuPeek, cpuWrite, chrRead, chrWrite, fill, regionPeek, regionWrite, sram}
 use Rattle.thm_machine.specs.Calls.{reset, syncBattery, restoreBattery, writeImage, Answer, byte, changed, span, image, done}
 
--- an answer by its refusal number
+-- N0: an answer by its refusal number
 abbrev pub replyOf : ℕ → Answer → Reply Answer
 replyOf zero a = answered a
 replyOf (suc q) a = refused (suc q)
@@ -23,7 +23,7 @@ replyOf (suc q) a = refused (suc q)
 abbrev pub gave : ℕ → Answer → State → List ℕ → Gave Held Answer
 gave q a s arena = record { reply = replyOf q a; state = record { state = s; arena = arena } }
 
--- the contracts of crates/namco163: calls.rt; of crates/regions and crates/battery: lib.rt; of crates/image: writing.rt
+-- A4: the contracts of call_cpu (calls.rt), call_regions, call_reset and call_battery (lib.rt), and image_write (writing.rt)
 unfoldable pub otherGives : Other → Held → Gave Held Answer
 otherGives (cpuRead addr) h = let r = cpuReadGives (h .state) (h .arena) addr in gave (r .refusal) (byte (r .byte)) (r .state) (h .arena)
 otherGives (cpuPeek addr) h = let r = cpuPeekGives (h .state) (h .arena) addr in gave (r .refusal) (byte (r .byte)) (h .state) (h .arena)
@@ -47,7 +47,7 @@ otherGives restoreBattery h = let r = restoreState (h .state) (h .arena) in gave
 otherGives (writeImage buffer) h = gave (writeRefusal (h .state) (length buffer)) (image (writtenImage (h .state) buffer)) (h .state)
     (h .arena)
 
--- the contract of crates/clocks: run.rt. A run takes no arena.
+-- A4: the contract of call_run (run.rt). A run takes no arena.
 unfoldable pub runGives : ℕ → List Float → Held → RunGave Held Float
 runGives n lent h =
     let g = runGave (h .state) n lent in

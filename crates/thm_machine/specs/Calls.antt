@@ -1,5 +1,4 @@
--- The calls of a list other than runs, with their arguments: "The calls after a load are CPU read, peek and write, CHR read and write,
--- fill, `region_peek`, `region_write`, `sram`, run, reset, battery sync and restore, and image writing."
+-- M14: the thirteen calls of a list other than runs, with their arguments.
 use Prim.Native.Nat.{ℕ, _<_}
 use mathlib.Core.List.{List}
 use lib.Ieee.{Float}
@@ -9,12 +8,12 @@ use Rattle.memory.specs.Range.{Bytes}
 use Rattle.board_state.specs.declared.State.{State}
 use Rattle.memory.specs.declared.changes.Changed.{Changed}
 
--- what is handed from call to call: the state, and the bytes of the arena
+-- C11: what goes from call to call: the state, and the bytes of the arena
 pub record Held : Type 0 where
   pub state : State
   pub arena : List ℕ
 
--- "Arguments are all else that is lent, as it stands at the call." A reset carries the host's number, image writing the lent buffer.
+-- C12: a call with its arguments. A reset carries the host's number (C18), image writing the lent buffer.
 pub data Other : Type 0 where
   cpuRead : ℕ → Other
   cpuPeek : ℕ → Other
@@ -30,7 +29,7 @@ pub data Other : Type 0 where
   restoreBattery : Other
   writeImage : List ℕ → Other
 
--- what the types of the arguments say: a value is a byte, and so is each lent one
+-- C12: what the types of the arguments say: a value is a byte, and so is each lent one
 abbrev pub ArgTyped : Other → Type 0
 ArgTyped (cpuRead addr) = Unit {0}
 ArgTyped (cpuPeek addr) = Unit {0}
@@ -50,7 +49,8 @@ abbrev pub CallTyped : Call Float Other → Type 0
 CallTyped (run n lent) = Unit {0}
 CallTyped (other a) = ArgTyped a
 
--- the answer of an accepted call besides its number: a byte, the changed pages, a start and a length, the written image bytes, or nothing
+-- C19: the answer of an accepted call besides its number: a byte, the changed pages, a start and a length, the written image bytes, or
+-- nothing
 pub data Answer : Type 0 where
   byte : ℕ → Answer
   changed : Changed → Answer

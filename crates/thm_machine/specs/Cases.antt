@@ -1,9 +1,7 @@
--- 01's "Table of proved cases": the twelve cases as one table, by their loads and calls. Each line has what the definitions give and what
--- it has to be.
+-- T1 to T12 as one table, by their loads and calls. Each line has what the definitions give and what it has to be.
 use Prim.Native.Nat.{ℕ, _+_, _*_, _/_, _%_, _^_}
-use mathlib.Core.Bool.{Bool, true, false, _&&_}
+use mathlib.Core.Bool.{true, false}
 use mathlib.Core.List.{List, [], _∷_, _++_, map}
-use lib.Dec.{eqb}
 use lib.ListN.{getD, length, replicate}
 use lib.Ieee.{nan, binary32, toBits}
 use Rattle.bits.specs.Fields.{bit}
@@ -20,34 +18,29 @@ use Rattle.call_load.specs.declared.Loaded.{Loaded}
 use Rattle.call_load.specs.Cartridge.{loadAnswer}
 use Rattle.call_run.specs.Run.{clocks, runGave}
 
--- whether each line holds
-unfoldable pub right : List (ℕ × ℕ) → Bool
-right [] = true
-right ((got, want) ∷ rest) = eqb got want && right rest
-
--- "Layout P: PRG-ROM 32,768, CHR-ROM 8,192, PRG-RAM 8,192, reserve 128, CIRAM 2,048": with another reserve in case 12
+-- T0: layout P, with another reserve in T12
 abbrev pub sizesP : ℕ → MemoryLayout
 sizesP reserve = record { «prg_rom» = 32768; «prg_ram» = 8192; «battery_ext» = reserve; chr = 8192; «chr_writable» = false; ciram = 2048 }
 
--- "52 pages, 53,248 bytes"
+-- T0: the bytes of its arena
 abbrev pub bytesP : ℕ
 bytesP = 53248
 
--- a load of P, "Mapper 19 with database entry.", and its state
+-- T0: a load of P as mapper 19, known to the database, and its state
 abbrev pub loadP : ℕ → Loaded
 loadP reserve = loadAnswer 19 0 0 true (sizesP reserve) bytesP
 
 abbrev pub p : State
 p = loadP 128 .state
 
--- a CPU write, its arena as load leaves it
+-- L7: a CPU write, its arena as load leaves it
 abbrev pub write : State → ℕ → ℕ → Written
 write s addr v = cpuWrite s (replicate bytesP 0) addr v
 
 abbrev pub after : State → ℕ → ℕ → State
 after s addr v = write s addr v .state
 
--- an entry for an arena page, without and with the writable flag
+-- R6: an entry for an arena page, without and with the writable flag
 abbrev pub page : ℕ → ℕ
 page k = k * 1024
 
@@ -60,14 +53,14 @@ prg s k = getD (s .memory .«prg_pages») k unmapped .0
 abbrev pub chr : State → ℕ → ℕ
 chr s k = getD (s .memory .«chr_pages») k unmapped .0
 
--- a write's answer: its number, the mask, the count and the lowest page of each table
+-- L15: a write's answer: its number, the mask, the count and the lowest page of each table
 abbrev pub answered : Written → ℕ → ℕ → ℕ → ℕ → ℕ → ℕ → List (ℕ × ℕ)
 answered w mask count lowest chrMask chrCount chrLowest =
     (w .refusal, 0) ∷ (w .changed .prg .mask, mask) ∷ (w .changed .prg .count, count) ∷ (w .changed .prg .lowest, lowest)
     ∷ (w .changed .chr .mask, chrMask) ∷ (w .changed .chr .count, chrCount) ∷ (w .changed .chr .lowest, chrLowest)
     ∷ []
 
--- cases 1 to 4: pages by register writes
+-- T1 to T4: pages by register writes
 abbrev pub pages : List (ℕ × ℕ)
 pages =
     let bank = write p 0xE000 0x3F in
@@ -86,7 +79,7 @@ pages =
     ++ answered selected 0 0 64 1 1 0
     ++ answered last 0 0 64 1 1 0
 
--- P with its counter written, low half first; and silent, so that 32,767 clocks make no sample
+-- T5 to T7: P with its counter written, low half first; and silent, so that 32,767 clocks make no sample
 abbrev pub counting : ℕ → State
 counting c = after (after p 0x5000 (c % 256)) 0x5800 (c / 256)
 
@@ -99,7 +92,7 @@ counter s = s .chip .regs .«irq_counter»
 abbrev pub line : State → ℕ
 line s = bit (s .chip .regs .«irq_pending»)
 
--- cases 5 to 7: the counter; that it never moves is `never-moves` of proofs/Cases.antt
+-- T5 to T7: the counter; that it never moves is `never-moves` of proofs/Cases.antt
 abbrev pub counters : List (ℕ × ℕ)
 counters =
     let one = runGave (counting 0xFFFE) 1 [] in
@@ -112,7 +105,7 @@ counters =
     ∷ (counter (top .state), 0xFFFF) ∷ (line (top .state), 0) ∷ (top .rise, 0)
     ∷ []
 
--- cases 8 to 10: leaves of the sound; case 11: runs of the loaded state
+-- T8 to T10: by definitions of the sound; T11: runs of the loaded state
 abbrev pub sounds : List (ℕ × ℕ)
 sounds =
     let short = runGave p 14 [] in
@@ -124,7 +117,7 @@ sounds =
     ∷ (one .refusal, 0) ∷ (one .made, 1) ∷ (one .state .chip .audio .«update_counter», 0) ∷ (toBits binary32 (getD (one .samples) 0 nan), 0)
     ∷ []
 
--- case 12: a reserve of 1 loads, one of 0 is refused by 6
+-- T12: a reserve of 1 loads, one of 0 is refused by 6
 abbrev pub reserves : List (ℕ × ℕ)
 reserves = (loadP 1 .refusal, 0) ∷ (arenaLen (layoutOf (sizesP 1)), bytesP) ∷ (loadP 0 .refusal, 6) ∷ []
 

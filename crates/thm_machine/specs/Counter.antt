@@ -1,4 +1,4 @@
--- The counter and the line, and the calls that write the counter or reset it.
+-- The counter and the line (C3), and the calls that write the counter or reset it (D3.2).
 use Prim.Native.Nat.{ℕ}
 use mathlib.Core.Bool.{Bool, false, _&&_}
 use mathlib.Core.List.{List, [], _∷_}
@@ -9,14 +9,15 @@ use Rattle.cut.specs.Calls.{Call, run, other}
 use Rattle.thm_machine.specs.Calls.{Held, Other, cpuRead, cpuPeek, cpuWrite, chrRead, chrWrite, fill, regionPeek, regionWrite, sram}
 use Rattle.thm_machine.specs.Calls.{reset, syncBattery, restoreBattery, writeImage}
 
--- "The line is the pending flag."
+-- R8, C3: the counter, and the line
 abbrev pub counterOf : Held → ℕ
 counterOf h = h .state .chip .regs .«irq_counter»
 
 abbrev pub lineOf : Held → Bool
 lineOf h = h .state .chip .regs .«irq_pending»
 
--- "neither written nor reset": a CPU write to 5000..5FFF, or a reset; one of another kind than 0 and 1 is refused, so it is none
+-- D3.2: what writes or resets the counter: a CPU write to 5000..5FFF, or a reset; one of another kind than 0 and 1 is refused (N3), so it
+-- is none
 abbrev pub touches : Other → Bool
 touches (cpuRead addr) = false
 touches (cpuPeek addr) = false
@@ -32,7 +33,7 @@ touches syncBattery = false
 touches restoreBattery = false
 touches (writeImage buffer) = false
 
--- no call of the list does
+-- D3.2: no call of the list does
 abbrev pub NoneTouches : List (Call Float Other) → Type 0
 NoneTouches [] = Unit {0}
 NoneTouches (run n lent ∷ calls) = NoneTouches calls

@@ -1,5 +1,5 @@
--- What 01 says of the board: the single clock, the refusal of each call, and what each accepted call answers and alters. It names neither
--- the fast run nor any answer of the code.
+-- What the scope says of the board: the single clock (C1, C2), the refusal of each call (N), and what each accepted call answers and alters
+-- (C17). Neither the fast run nor an answer of the code occurs in it.
 use Prim.Native.Nat.{ℕ}
 use mathlib.Core.List.{List}
 use lib.Ieee.{Float}
@@ -27,12 +27,12 @@ use Rattle.call_run.specs.Run.{runChecks}
 use Rattle.thm_machine.specs.Calls.{Held, Other, cpuRead, cpuPeek, cpuWrite, chrRead, chrWrite, fill, regionPeek, regionWrite, sram}
 use Rattle.thm_machine.specs.Calls.{reset, syncBattery, restoreBattery, writeImage, Answer, byte, changed, span, image, done}
 
--- one clock: it leaves the arena
+-- C1, C2: one clock; it leaves the arena
 unfoldable pub clock : Held → Clocked Held Float
 clock h = let c = stateClock (h .state) in
     record { state = record { state = c .state; arena = h .arena }; sample = c .sample; rise = c .rise }
 
--- the checks of each call, in 01's order
+-- N20: the checks of each call, in the order of their numbers
 unfoldable pub checks : Other → Held → List Check
 checks (cpuRead addr) h = cpuChecks (h .state) (length (h .arena)) addr
 checks (cpuPeek addr) h = cpuChecks (h .state) (length (h .arena)) addr
@@ -48,7 +48,7 @@ checks syncBattery h = batteryChecks (h .state) (length (h .arena))
 checks restoreBattery h = batteryChecks (h .state) (length (h .arena))
 checks (writeImage buffer) h = writeChecks (h .state) (length buffer)
 
--- an answer that alters nothing, the state, or the arena
+-- C17: an answer that alters nothing, the state, or the arena
 abbrev pub saying : Answer → Held → Answered Held Answer
 saying a h = record { answer = a; state = h }
 
@@ -58,7 +58,7 @@ toState a h s = record { answer = a; state = record { state = s; arena = h .aren
 abbrev pub toArena : Answer → Held → List ℕ → Answered Held Answer
 toArena a h arena = record { answer = a; state = record { state = h .state; arena = arena } }
 
--- "Any other accepted call answers and alters what this paper says."
+-- C17: what an accepted call other than a run answers and alters, by L7, L8, L15, S10, M8 to M13, C7 to C9 and H1
 unfoldable pub answers : Other → Held → Answered Held Answer
 answers (cpuRead addr) h = toState (byte (cpuByte (h .state) (h .arena) addr)) h (withChip (h .state) (afterRead (h .state .chip) addr))
 answers (cpuPeek addr) h = saying (byte (cpuByte (h .state) (h .arena) addr)) h
@@ -81,6 +81,7 @@ answers restoreBattery h =
     toState done h (withChip (h .state) (withAudio chip (withRam (chip .audio) (batteryBytes (h .state) (h .arena)))))
 answers (writeImage buffer) h = saying (image (imageOf (h .state))) h
 
+-- C15 to C17: what the plain machine goes by
 abbrev pub paper : Paper Held Float Other Answer
 paper =
     record {

@@ -1,4 +1,4 @@
--- Where a list starts: an accepted load.
+-- C11: where a list starts: an accepted load.
 use Prim.Native.Nat.{ℕ}
 use mathlib.Core.Path.{_≡_}
 use mathlib.Core.Bool.{Bool}
@@ -10,7 +10,7 @@ use Rattle.call_load.specs.Cartridge.{freshState, loadAnswer, loadArena}
 use Rattle.call_refusals.specs.Refusals.{firstOf, loadChecks}
 use Rattle.thm_machine.specs.Calls.{Held}
 
--- a load's arguments, and that it is accepted
+-- C11: a load's arguments, and that it is accepted
 pub record Loaded : Type 0 where
   pub mapper : ℕ
   pub submapper : ℕ
@@ -20,7 +20,7 @@ pub record Loaded : Type 0 where
   pub arena : List ℕ
   pub accepted : firstOf (loadChecks mapper sizes (length arena)) ≡ 0
 
--- the state that the call answers, and the arena that it leaves
+-- C11: the state that the call answers, and the arena that it leaves
 abbrev pub loaded : Loaded → Held
 loaded l =
     record {
@@ -28,7 +28,7 @@ loaded l =
       arena = loadArena (l .mapper) (l .sizes) (l .arena);
     }
 
--- the machine's own: a fresh state, and as many zeros as the layout has bytes
+-- C15: the machine's own: a fresh state, and as many zeros as the layout has bytes
 abbrev pub zeroed : Loaded → Held
 zeroed l =
     record {

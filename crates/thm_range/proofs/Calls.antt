@@ -186,7 +186,7 @@ restore-fits h f e =
     (λ t. ram-range (n .audio) ram))
     f
 
--- "PRG mask at its own bits 24..63": bits 0..23 are clear, from any state, refused or not
+-- L15: bits 0..23 of the PRG mask are clear, from any state, refused or not
 pub cpu-write-mask : (s : State) (arena : List ℕ) (addr v : ℕ) → cpuWriteGives s arena addr v .changed .prg .mask % 2 ^ 24 ≡ 0
 unfolding cpuWriteGives changes prgChanges
 cpu-write-mask s arena addr v =

@@ -1,5 +1,5 @@
--- "a list above, whose conditions work both ways": checks whose numbers rise are decided. A call is accepted exactly where none of its
--- conditions holds, and refused by a number exactly where that number's condition is the first that holds. Assumes nothing.
+-- N0, both ways: checks whose numbers rise are decided. A call is accepted exactly where none of its conditions holds, and refused by a
+-- number exactly where that number's condition is the first that holds. Assumes nothing.
 use Prim.Native.Nat.{ℕ, _≤_, _<_}
 use mathlib.Core.Path.{_≡_, refl}
 use mathlib.Core.Bool.{Bool, true, false, cond}
@@ -77,7 +77,7 @@ decided cs r =
         → (firstOf cs ≡ c .number) ↔ (NoneHolds before × (c .holds ≡ true))
     by before after c e = rw e (first-is 0 before after c (rw e at r), (λ h. refused-first before after c (h .0) (h .1)))
 
--- ---- the checks of each call
+-- ---- the checks of each call: N20
 
 pub state-decided : (s : State) → Decided (stateChecks s)
 state-decided s = decided _ (omega arith, tt)

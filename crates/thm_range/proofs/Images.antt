@@ -1,4 +1,4 @@
--- The image of every state that a call owns reads back to it; refusals 1 and 2 of image writing and reading, both ways.
+-- H3: the image of every state that a call owns reads back to it. N1 and N2 of image writing and reading, both ways.
 use Prim.Native.Nat.{ℕ}
 use mathlib.Core.Path.{_≡_, refl}
 use mathlib.Core.Bool.{true, false}
@@ -21,12 +21,12 @@ use Rattle.image_read.specs.Reading.{fieldsOf, fieldsOk, fieldsCheck, readCheck
 use Rattle.image_read.proofs.RoundTrip.{read-written}
 use Rattle.thm_range.proofs.Decided.{Decided, decided}
 
--- "Reading what a state in range was written to gives that state": every state that a call owns
+-- H3: of every state that a call owns and that is in range
 pub owned-read-written : (s : State) (vs : List Val) → Is Row.the-row s vs → inRange s ≡ true
     → readImage (imageOf s) ≡ record { refusal = 0; state = s }
 owned-read-written s vs is e = read-written s (known s vs is e)
 
--- ---- what is refused
+-- ---- what is refused: N1, N2
 
 write-decided : (s : State) (len : ℕ) → Decided (writeChecks s len)
 write-decided s len = decided _ (omega arith, (omega arith, tt))
@@ -34,7 +34,7 @@ write-decided s len = decided _ (omega arith, (omega arith, tt))
 read-decided : (img : List ℕ) → Decided (readChecks img)
 read-decided img = decided _ (omega arith, (omega arith, tt))
 
--- "1. An image, to read or to write, is not 307 bytes."
+-- N1, both ways
 pub refused-1 : (len : ℕ) (rest : List Check) → Decided (imageCheck len ∷ rest)
     → (firstOf (imageCheck len ∷ rest) ≡ 1) ↔ (len ≡ imageBytes → ⊥)
 refused-1 len rest d =
@@ -47,7 +47,7 @@ write-refused-1 s len = refused-1 len (stateCheck s ∷ []) (write-decided s len
 pub read-refused-1 : (img : List ℕ) → (firstOf (readChecks img) ≡ 1) ↔ (length img ≡ imageBytes → ⊥)
 read-refused-1 img = refused-1 (length img) (fieldsCheck (fieldsOf img) ∷ []) (read-decided img)
 
--- "2. A state or image field is out of range."
+-- N2, both ways
 pub write-refused-2 : (s : State) (len : ℕ) → (firstOf (writeChecks s len) ≡ 2) ↔ ((len ≡ imageBytes) × (inRange s ≡ false))
 write-refused-2 s len =
     let r = write-decided s len .refused (imageCheck len ∷ []) [] (stateCheck s) refl in (

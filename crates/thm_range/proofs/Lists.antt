@@ -1,5 +1,5 @@
--- From every accepted load, after every list of calls, refused ones among them: the state is known, the arena is of the layout's length and
--- of bytes, and no call was refused by 2 or 7.
+-- R9, N2, N7: from every accepted load, after every list of calls, refused ones among them: the state is known, the arena is of the
+-- layout's length and of bytes, and no call was refused by 2 or 7.
 use Prim.Native.Nat.{ℕ, zero, suc, _^_, _<_}
 use mathlib.Core.Path.{_≡_, refl, sym, ap, _∙_}
 use mathlib.Core.Bool.{Bool, true, false, cond}

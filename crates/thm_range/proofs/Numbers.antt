@@ -1,6 +1,6 @@
--- 01's list of refusals, a theorem for each number: a call answers it exactly where its condition holds and none of those that the call
--- checks before it. They hold of every list of checks that begins so; `Decided` of proofs/Decided.antt says which calls make them. Assumes
--- nothing.
+-- N2 to N9 and N12, both ways: a call answers the number exactly where its condition holds and none of those that the call checks before
+-- it. `refused-2` and `refused-7` are about every list that begins with these checks, the others about the checks of their calls. N1 is in
+-- Images.antt, N10 and N11 are in Runs.antt. Assumes nothing.
 use Prim.Native.Nat.{ℕ, _<_}
 use mathlib.Core.Path.{_≡_, refl}
 use mathlib.Core.Bool.{Bool, true, false, not, _&&_}
@@ -27,14 +27,14 @@ passes b h = rw h
 fails : (b : Bool) → b ≡ false → not b ≡ true
 fails b h = rw h
 
--- "2. A state or image field is out of range.": in every call that takes a state
+-- N2: in every call whose first check is the state's
 pub refused-2 : (s : State) (rest : List Check) → Decided (stateCheck s ∷ rest)
     → (firstOf (stateCheck s ∷ rest) ≡ 2) ↔ (inRange s ≡ false)
 refused-2 s rest d =
     let r = d .refused [] rest (stateCheck s) refl in
     ((λ e. not-true (inRange s) (r .0 e .1)), (λ h. r .1 (tt, rw h)))
 
--- "3. A host reset kind is neither 0 (soft) nor 1 (hard)."
+-- N3
 pub refused-3 : (s : State) (kind : ℕ) → (firstOf (resetChecks s kind) ≡ 3) ↔ ((inRange s ≡ true) × (1 < kind))
 refused-3 s kind =
     let r = reset-decided s kind .refused (stateCheck s ∷ []) [] (kindCheck kind) refl in (
@@ -42,14 +42,14 @@ refused-3 s kind =
       (λ h. r .1 ((rw (h .0), tt), lt-ltb 1 kind (h .1))),
     )
 
--- "4. A load names a mapper other than 19 or 210."
+-- N4
 pub refused-4 : (mapper : ℕ) (sizes : MemoryLayout) (len : ℕ) → (firstOf (loadChecks mapper sizes len) ≡ 4) ↔ (mapperOk mapper ≡ false)
 refused-4 mapper sizes len =
     let r = load-decided mapper sizes len .refused []
     (sizesCheck sizes ∷ reserveCheck mapper sizes ∷ arenaCheck (arenaLen (layoutOf sizes)) len ∷ []) (mapperCheck mapper) refl in
     ((λ e. not-true (mapperOk mapper) (r .0 e .1)), (λ h. r .1 (tt, fails (mapperOk mapper) h)))
 
--- "5. A layout size is above its limit."
+-- N5
 pub refused-5 : (mapper : ℕ) (sizes : MemoryLayout) (len : ℕ)
     → (firstOf (loadChecks mapper sizes len) ≡ 5) ↔ ((mapperOk mapper ≡ true) × (withinLimits sizes ≡ false))
 refused-5 mapper sizes len =
@@ -59,7 +59,7 @@ refused-5 mapper sizes len =
       (λ h. r .1 ((passes (mapperOk mapper) (h .0), tt), rw (h .1))),
     )
 
--- "6. A 163 load has a battery reserve of 0."
+-- N6
 pub refused-6 : (mapper : ℕ) (sizes : MemoryLayout) (len : ℕ)
     → (firstOf (loadChecks mapper sizes len) ≡ 6) ↔ ((withinLimits sizes ≡ true) × ((mapper ≡ 19) × (sizes .«battery_ext» ≡ 0)))
 refused-6 mapper sizes len =
@@ -79,7 +79,7 @@ refused-6 mapper sizes len =
       )),
     )
 
--- "7. The arena's length is not the layout's.": in every call that takes state and arena
+-- N7: in every call that takes state and arena
 pub refused-7 : (s : State) (len : ℕ) (rest : List Check)
     → Decided (stateCheck s ∷ arenaCheck (arenaLen (s .memory .layout)) len ∷ rest)
     → (firstOf (stateCheck s ∷ arenaCheck (arenaLen (s .memory .layout)) len ∷ rest) ≡ 7)
@@ -91,7 +91,7 @@ refused-7 s len rest d =
       (λ h. r .1 ((rw (h .0), tt), rw (ne-eqb len long (h .1)))),
     )
 
--- and in a load
+-- N7 in a load
 pub load-refused-7 : (mapper : ℕ) (sizes : MemoryLayout) (len : ℕ)
     → (firstOf (loadChecks mapper sizes len) ≡ 7)
     ↔ (((mapperOk mapper ≡ true) × ((withinLimits sizes ≡ true) × (eqb mapper 19 && eqb (sizes .«battery_ext») 0 ≡ false)))
@@ -108,7 +108,7 @@ load-refused-7 mapper sizes len =
       (λ h. r .1 ((passes (mapperOk mapper) (h .0 .0), (rw (h .0 .1 .0), (h .0 .1 .1, tt))), rw (ne-eqb len long (h .1)))),
     )
 
--- a state in range and an arena of its layout's length: the checks before 8, 9 and 12
+-- a state in range and an arena of its layout's length: the checks before N8, N9 and N12
 module _ (s : State) (len : ℕ) where
   abbrev Fits : Type 0
   Fits = (inRange s ≡ true) × (len ≡ arenaLen (s .memory .layout))
@@ -123,20 +123,20 @@ module _ (s : State) (len : ℕ) where
         (λ h. r .1 ((rw (h .0 .0), (rw (eq-eqb len long (h .0 .1)), tt)), h .1)),
       )
 
-  -- "8. A CPU address is below 4800."
+  -- N8
   pub refused-8 : (addr : ℕ) → (firstOf (cpuChecks s len addr) ≡ 8) ↔ (Fits × (addr < 0x4800))
   refused-8 addr =
       let r = behind (addressCheck addr) (cpu-decided s len addr) in
       ((λ e. (r .0 e .0, ltb-true addr 0x4800 (r .0 e .1))), (λ h. r .1 (h .0, lt-ltb addr 0x4800 (h .1))))
 
-  -- "9. A fill is longer than its region."
+  -- N9
   pub refused-9 : (src : Src) (n : ℕ) → (firstOf (fillChecks s len src n) ≡ 9) ↔ (Fits × (regionIn (s .memory) src .len < n))
   refused-9 src n =
       let region = regionIn (s .memory) src .len in
       let r = behind (fillCheck s src n) (fill-decided s len src n) in
       ((λ e. (r .0 e .0, ltb-true region n (r .0 e .1))), (λ h. r .1 (h .0, lt-ltb region n (h .1))))
 
-  -- "12. Battery sync or restore meets a used length of 0, where the Rust panics."
+  -- N12
   pub refused-12 : (firstOf (batteryChecks s len) ≡ 12) ↔ (Fits × (s .memory .«battery_ext_len» ≡ 0))
   refused-12 =
       let used = s .memory .«battery_ext_len» in

@@ -1,6 +1,5 @@
--- "Each returns its number and leaves state and lent buffers unaltered": what a refused call answers and leaves, and an accepted one. The
--- calls of a list by one theorem over them; what it says of a single call's answer is `refused-is`, `accepted-is` and `number-is` of
--- call_refusals, and of a run's `refused-run` of call_run.
+-- N0, N21: what a refused call answers and leaves, and an accepted one. The calls of a list by one theorem over them; what it says of a
+-- single call's answer is `refused-is`, `accepted-is` and `number-is` of call_refusals, and of a run's `refused-run` of call_run.
 use Prim.Native.Nat.{ℕ, zero, suc}
 use mathlib.Core.Path.{_≡_, refl}
 use mathlib.Core.Bool.{Bool}
@@ -39,7 +38,7 @@ pub other-accepted : (a : Other) (h : Held) → Accepted (checks a h)
     → otherGives a h ≡ record { reply = answered (answers a h .answer); state = answers a h .state }
 other-accepted a h e = rw (keeps-other a h, e)
 
--- ---- the load: a state that no call accepts, and the arena as it was
+-- ---- N21, the load: a state that no call accepts, and the arena as it was
 
 module _ (mapper sub flags : ℕ) (known : Bool) (sizes : MemoryLayout) (arena : List ℕ)
     (h : Refused (loadChecks mapper sizes (length arena))) where

@@ -1,4 +1,4 @@
--- The run's refusal numbers, both ways.
+-- N10 and N11, both ways.
 use Prim.Native.Nat.{ℕ, _≤_, _<_}
 use mathlib.Core.Path.{_≡_, refl}
 use mathlib.Core.Bool.{true}
@@ -15,7 +15,7 @@ use Rattle.thm_range.proofs.Decided.{Decided, decided}
 pub run-decided : (s : State) (n room : ℕ) → Decided (runChecks s n room)
 run-decided s n room = decided _ (omega arith, (omega arith, (omega arith, tt)))
 
--- "10. A run is longer than 65,536."
+-- N10
 pub refused-10 : (s : State) (n room : ℕ) → (firstOf (runChecks s n room) ≡ 10) ↔ ((inRange s ≡ true) × (runLimit < n))
 refused-10 s n room =
     let r = run-decided s n room .refused (stateCheck s ∷ []) (roomCheck s n room ∷ []) (lengthCheck n) refl in (
@@ -23,7 +23,7 @@ refused-10 s n room =
       (λ h. r .1 ((rw (h .0), tt), lt-ltb runLimit n (h .1))),
     )
 
--- "11. The lent samples are fewer than the run makes"
+-- N11
 pub refused-11 : (s : State) (n room : ℕ)
     → (firstOf (runChecks s n room) ≡ 11) ↔ ((inRange s ≡ true) × ((n ≤ runLimit) × (room < made n s)))
 refused-11 s n room =

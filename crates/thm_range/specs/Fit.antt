@@ -1,4 +1,4 @@
--- A state that is known, and the arena that belongs to it: of the layout's length, and of bytes.
+-- R4, R9: a state that is known, and the arena that belongs to it: of the layout's length, and of bytes.
 use mathlib.Core.Path.{_≡_}
 use lib.ListN.{length}
 use Rattle.memory.specs.Layout.{arenaLen}

@@ -1,5 +1,5 @@
--- Mapping by the registers keeps a memory in range, for every chip; it keeps the layout, the used length and PRG entries 0..23, so that
--- "PRG bits 0..23" of a write's mask are never set. Assumes nothing.
+-- L13: mapping by the registers keeps a memory in range (R9), for every chip; it keeps the layout, the used length and PRG entries 0..23,
+-- so that bits 0..23 of a write's PRG mask are never set (L15). Assumes nothing.
 use Prim.Native.Nat.{ℕ, zero, suc, _+_, _*_, _/_, _%_, _^_, _≤_, _<_}
 use mathlib.Core.Path.{_≡_, refl, _∙_}
 use mathlib.Core.Bool.{Bool, true, false, cond}

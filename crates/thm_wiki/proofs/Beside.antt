@@ -44,7 +44,7 @@ advanced-disabled a = go (a .«auto_increment»)
     go true = refl
     go false = refl
 
--- only E000..E7FF disables sound
+-- W11: only E000..E7FF disables sound
 pub written-disabled : (a : Audio) (addr v : ℕ) → within 0xE000 0xE7FF addr ≡ false → written a addr v .disabled ≡ a .disabled
 unfolding written
 written-disabled a addr v e = rw e (go (within 0x4800 0x4FFF addr) (within 0xF800 0xFFFF addr))

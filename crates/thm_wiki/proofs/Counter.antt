@@ -1,5 +1,5 @@
--- The counter: its clock in one step, 01's case 7 "Counters 7FFE and FFFF never move", and that its cycle and its two bytes are the
--- wiki's. Assumes nothing.
+-- The counter: its clock in one step, T7 of every stopped counter, and that its cycle and its two bytes are the wiki's (W4 to W6). Assumes
+-- nothing.
 use Prim.Native.Nat.{ℕ, zero, suc, _+_, _*_, _/_, _%_, _^_, _≤_, _<_}
 use mathlib.Core.Path.{_≡_, refl, ap, _∙_}
 use mathlib.Core.Bool.{Bool, true, false, cond, _||_}
@@ -35,7 +35,7 @@ clock-plain r = go (ltb (r .«irq_counter») 0x8000) (eqb (r .«irq_counter») 0
     go false true p q = rw (p, q)
     go false false p q = rw (p, q)
 
--- ---- a counter that is stopped, disabled or at FFFF, stays for good, and so does its line
+-- ---- T7: a counter that is stopped, disabled or at FFFF, stays for good, and so does its line
 
 unfoldable pub clocks : ℕ → Regs → Regs
 clocks zero r = r
@@ -53,7 +53,7 @@ never-moves (suc n) r h = rw (clock-stopped r h) (never-moves n r h)
 
 -- ---- beside the wiki
 
--- one cycle
+-- W5: one cycle
 pub cycle-agrees : (r : Regs) → r .«irq_counter» < 65536 → irqOf (clockCounter r) ≡ wikiCycle (irqOf r)
 unfolding wikiCycle plainClock
 cycle-agrees r h = ap irqOf (clock-plain r) ∙ go (leb 0x8000 (r .«irq_counter»)) (eqb (r .«irq_counter») 0xFFFF) refl refl
@@ -96,7 +96,7 @@ cycle-agrees r h = ap irqOf (clock-plain r) ∙ go (leb 0x8000 (r .«irq_counter
         pending true = refl
         pending false = refl
 
--- its two bytes, written
+-- W4, W6: its two bytes, written
 pub low-agrees : (r : Regs) (v : ℕ) → r .«irq_counter» < 65536 → v < 256 → irqOf (lowHalf r v) ≡ wikiWriteLow (irqOf r) v
 unfolding wikiWriteLow
 low-agrees r v h b =
@@ -121,7 +121,7 @@ high-agrees r v h b =
         (λ p. eq-eqb (v / 128 % 2) 1 (omega (arith, leb-true 0x8000 (r .«irq_counter» % 256 + v * 256) p)))
         (λ p. let l = leb-false 0x8000 (r .«irq_counter» % 256 + v * 256) p in ne-eqb (v / 128 % 2) 1 (λ e. omega arith))
 
--- and read
+-- W4: and read
 pub read-low-agrees : (n : Namco163) (a : ℕ) → 0x5000 ≤ a → a < 0x5800 → served n a ≡ Byte (wikiReadLow (irqOf (n .regs)))
 unfolding served
 read-low-agrees n a l h =
@@ -140,7 +140,7 @@ read-high-agrees n a b l h =
     go true p = omega (arith, leb-true 0x8000 (n .regs .«irq_counter») p)
     go false p = omega (arith, leb-false 0x8000 (n .regs .«irq_counter») p)
 
--- departure: the counter and the sound port answer on every board
+-- departure from W13: the counter and the sound port answer on every board
 pub served-anywhere : (n : Namco163) (b : Board) (a : ℕ) → served (withBoard n b) a ≡ served n a
 unfolding served
 served-anywhere n b a = refl

@@ -1,4 +1,4 @@
--- E000, E800 and F000: PRG pages, the select bits and whether sound is off are what the wiki says. Assumes nothing.
+-- E000, E800 and F000: PRG pages, the select bits and whether sound is off are what the wiki says (W10, W11). Assumes nothing.
 use Prim.Native.Nat.{ℕ, zero, _-_, _/_, _%_, _≤_, _<_}
 use mathlib.Core.Path.{_≡_, refl, sym, _∙_}
 use mathlib.Core.Bool.{not, _&&_, _||_}

@@ -1,5 +1,5 @@
--- 8000..DFFF, the twelve windows: a slot's write selects what the wiki says of the value, by the select bits of the moment. Assumes
--- nothing.
+-- 8000..DFFF, the twelve windows: a slot's write selects what the wiki says of the value (W8, W9), by the select bits of the moment (W10).
+-- Assumes nothing.
 use Prim.Native.Nat.{ℕ, _-_, _/_, _%_, _≤_, _<_}
 use mathlib.Core.Path.{_≡_, refl, ap, _∙_}
 use mathlib.Core.Bool.{Bool, true, false, cond, not, _&&_}

@@ -1,5 +1,5 @@
--- Every write, and writes in order: a 163 that is not detecting stays beside the wiki's registers, but that the select bits act when a
--- slot is written (`select-departs`). Assumes nothing.
+-- Every write, and writes in order: a 163 that is not detecting stays beside the wiki's registers (W8 to W11), as long as no write changes
+-- the select bits (`select-departs`). Assumes nothing.
 use Prim.Native.Nat.{ℕ, _≤_, _<_}
 use mathlib.Core.Path.{_≡_, refl}
 use mathlib.Core.Bool.{Bool, true, false, cond}
@@ -95,8 +95,8 @@ unfolding wikiWrites chipWrites
 writes-agree [] w n q s = q
 writes-agree ((a, v) ∷ writes) w n q s = writes-agree writes (wikiWrite w a v) (writeChip n a v) (write-agrees w n a v q (s .0)) (s .1)
 
--- departure: the select bits act when a slot is written. 8000 = E1 and then E800 = 40: the wiki's window 0 shows CHR page E1, the board's
--- still nametable RAM
+-- departure from W10: a slot's write looks at the select bits, and a later change of theirs does not reach the slot. 8000 = E1 and then
+-- E800 = 40: the wiki's window 0 shows CHR page E1, the board's still nametable RAM
 pub select-departs : (wikiShows
     (wikiWrites (record { windows = replicate 12 0; pages = replicate 3 0 }) ((0x8000, 0xE1) ∷ (0xE800, 0x40) ∷ [])) 0 ≡ chrPage 0xE1)
     × (slotShows (chipWrites (chipAtLoad 19 0 0 true) ((0x8000, 0xE1) ∷ (0xE800, 0x40) ∷ [])) 0 ≡ nametable 1)

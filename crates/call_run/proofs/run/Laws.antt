@@ -135,7 +135,7 @@ silent-samples n s e = after-samples s false e n
 pub rise-is : (n : ℕ) (s : State) → lastOr 0 (clocks n s .stretch .rises) ≡ counterRise n (s .chip .regs)
 rise-is n s = after-rise s (is163 (s .chip .board)) refl n
 
--- ---- "Samples are floor((u + n) / 15), u the update counter, or 0 when disabled or not a 163."
+-- ---- C6: (u + n) / 15 samples, rounded down, on a 163 whose sound is enabled; else no sample
 
 pub made-floor : (n : ℕ) (s : State) → s .chip .audio .«update_counter» ≤ updateMost
     → made n s ≡ cond (is163 (s .chip .board)) (cond (s .chip .audio .disabled) 0 ((s .chip .audio .«update_counter» + n) / 15)) 0

@@ -1,5 +1,5 @@
--- Mask, count and lowest entry say of a table of any length which entries differ, and the machine's counts of the mask are those of
--- the entries. Assumes nothing.
+-- L15, F9: mask, count and lowest entry say of a table of any length which entries differ, and the machine's counts of the mask are those
+-- of the entries. Assumes nothing.
 use Prim.Native.Nat.{ℕ, zero, suc, _+_, _-_, _*_, _/_, _%_, _^_, _≤_, _<_}
 use mathlib.Core.Path.{_≡_, refl, ap, ap₂, sym, _∙_}
 use mathlib.Core.Bool.{Bool, true, false, cond, not}

@@ -1,4 +1,4 @@
--- Every region lies inside the arena, behind the zero page, and the sizes that 01 takes give a good layout. Assumes nothing.
+-- R4: every region lies inside the arena, behind the zero page. Sizes within R1's limits give a good layout. Assumes nothing.
 use Prim.Native.Nat.{ℕ, _+_, _*_, _/_, _≤_}
 use mathlib.Core.Path.{_≡_}
 use mathlib.Core.Bool.{Bool, true, false}
@@ -41,7 +41,7 @@ region-ends l s = go (l .«chr_writable») s
     go false Chr = omega arith
     go false CiRam = omega arith
 
--- the largest arena: every size at its limit
+-- R4: the largest arena, every size at its limit
 pub pages-le : (l : Layout) → GoodLayout l → arenaPages l ≤ arenaMost / 1024
 pages-le l g = omega (arith, arena-pages l)
 
@@ -104,7 +104,7 @@ layout-good s e =
     let c = ciram-pages (s .ciram) (f .ciram) in
     record { prgRom = omega arith; prgRam = omega arith; battery = omega arith; chr = omega arith; ciram = c .1; someCiram = c .0 }
 
--- the battery region begins where PRG-RAM ends, so that `sram` is one stretch
+-- M13: the battery region begins where PRG-RAM ends, so that `sram` is one stretch
 pub battery-behind : (l : Layout) (used : ℕ) → regionOf l used BatteryExt .start
     ≡ regionOf l used PrgRam .start + regionOf l used PrgRam .len
 unfolding regionOf firstPage pagesBefore arenaOrder

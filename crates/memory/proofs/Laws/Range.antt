@@ -1,4 +1,4 @@
--- Where the memory's test is passed its parts are in range, and the other way round. Assumes nothing.
+-- R9: where the memory's test is passed its parts are in range, and the other way round. Assumes nothing.
 use Prim.Native.Nat.{ℕ, _*_, _%_, _≤_}
 use mathlib.Core.Path.{_≡_, refl}
 use mathlib.Core.Bool.{Bool, true, false}

@@ -1,4 +1,4 @@
--- Every mapping step gives entries on page starts inside the arena with bit 30 clear, and keeps what the types say of the tables.
+-- Every mapping step gives entries in range (R9), and keeps what the types say of the tables.
 use Prim.Native.Nat.{ℕ, zero, suc, _+_, _*_, _/_, _%_, _^_, _≤_, _<_}
 use mathlib.Core.Path.{_≡_, refl, ap, ap₂, _∙_}
 use mathlib.Core.Bool.{Bool, true, false, cond}

@@ -1,5 +1,5 @@
--- The bit patterns of floats with the sign clear are in the order of their values: where `out` is in 0..=3825 its bits are at most those
--- of 3825.
+-- The bit patterns of floats with the sign clear are in the order of their values: where `out` is from 0 to 3825 its bits are at most those
+-- of 3825 (R9).
 use Prim.Native.Nat.{ℕ, _+_, _-_, _*_, _/_, _^_, _≤_, _<_}
 use mathlib.Core.Path.{_≡_, refl, ap, _∙_, subst}
 use mathlib.Core.Bool.{Bool, true, false, _&&_, _||_}

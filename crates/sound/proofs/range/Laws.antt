@@ -1,4 +1,4 @@
--- Where the sound's test is passed its fields are in range, and the other way round.
+-- R9: where the sound's test is passed its fields are in range, and the other way round.
 use Prim.Native.Nat.{ℕ, suc, _<_}
 use mathlib.Core.Path.{_≡_, refl, sym, ap, _∙_, subst}
 use mathlib.Core.Bool.{Bool, true, false, not, _&&_}

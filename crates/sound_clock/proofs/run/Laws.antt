@@ -1,5 +1,5 @@
--- n single clocks are floor((u + n) / 15) updates and a new counter, and their samples are those updates' outputs; and a run that is cut
--- in two is the same run.
+-- C6: n single clocks from counter u are (u + n) / 15 updates and a new counter, and their samples are those updates' outputs; and a run
+-- that is cut in two is the same run.
 use Prim.Native.Nat.{ℕ, zero, suc, _+_, _/_, _%_, _≤_, _<_}
 use mathlib.Core.Path.{_≡_, refl, ap, _∙_}
 use mathlib.Core.List.{List, [], _∷_, _++_, append-assoc}
@@ -124,7 +124,7 @@ samples-on (suc n) a d h =
     (samples-on n (withCounter a (u + 1)) d (omega arith) ∙ outputs-counter ((u + 1 + n) / 15) a (u + 1)))
     (eq-or-lt-of-le {n = u + 1} {m = 15} (omega arith))
 
--- ---- how many: floor((u + n) / 15) samples, or 0 when disabled
+-- ---- C6: how many samples; a disabled sound makes none
 pub made-closed : (n : ℕ) (a : Audio) → a .«update_counter» ≤ updateMost
     → length (samplesOf n a) ≡ cond (a .disabled) 0 ((a .«update_counter» + n) / 15)
 made-closed n a h = go (a .disabled) refl

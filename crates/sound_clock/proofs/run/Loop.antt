@@ -58,7 +58,7 @@ sum-kept a level c sum now k l h e n =
     let b = mixed-total ks c m h (z .small) in
     n ∙ rw (e, z .are) (sym (sum-again ks c (a .«current_channel») level m h (omega (arith, k .range .channel)) (omega arith) l))
 
--- i of count updates are made, from the buffer s₀ and the state a₀; s is the buffer, a the state, and sum that of its channels 7−c..=7
+-- i of count updates are made, from the buffer s₀ and the state a₀; s is the buffer, a the state, and sum that of channels 7 − c up to 7
 pub record Going (s₀ : List Float) (count : ℕ) (a₀ : Audio) (c : ℕ) (s : List Float) (a : Audio) (sum : Float) (i : ℕ) : Type 0 where
   pub within : i ≤ count
   pub known : Known a

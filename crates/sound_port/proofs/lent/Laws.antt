@@ -1,4 +1,4 @@
--- The port at an address in range, as 01 has it, and at any other.
+-- S10: the port at an address in range, and at any other.
 use Prim.Native.Nat.{ℕ, _+_, _<_}
 use mathlib.Core.Path.{_≡_, refl, sym, ap}
 use mathlib.Core.Bool.{true, false}

@@ -1,4 +1,4 @@
--- The f32 sum of whole numbers is the exact sum, `out` is one rounding of the exact quotient, and for 1, 2, 4 or 8 channels it is exact.
+-- S7: the f32 sum of whole numbers is their exact sum; `out` is its quotient, rounded once; and with 1, 2, 4 or 8 channels no bit is lost.
 use Prim.Native.Nat.{ℕ, zero, suc, _+_, _-_, _*_, _^_, _≤_, _<_}
 use mathlib.Core.Path.{_≡_, refl, sym, ap, _∙_}
 use mathlib.Core.Bool.{Bool, true, false}
@@ -32,7 +32,7 @@ drop-map zero ks = refl
 drop-map (suc n) [] = refl
 drop-map (suc n) (k ∷ ks) = drop-map n ks
 
--- the sum of channels 7−c..=7 that are whole numbers
+-- the sum of the outputs of channels 7 − c up to 7, where they are whole numbers
 sum-is : (ks : List ℕ) (c : ℕ) → total (drop (7 - c) ks) ≤ 2 ^ 24 → sumOf (map whole ks) c ≡ whole (total (drop (7 - c) ks))
 unfolding sumOf
 sum-is ks c h =
@@ -56,12 +56,12 @@ power-exact size j s h =
     back : 149 ≡ 149 - j + j
     back = omega arith
 
--- for 1, 2, 4 or 8 channels the quotient is exact: `out` has the value of the whole sum over the number of channels
+-- with 1, 2, 4 or 8 channels no bit is lost: `out` has the value of the whole sum over the number of channels
 pub mix-exact : (ks : List ℕ) (c j : ℕ) → total (drop (7 - c) ks) ≤ 8 * levelMost → c < 8 → j ≤ 3 → c + 1 ≡ 2 ^ j
     → HasValue (mixOf (map whole ks) c) false (total (drop (7 - c) ks)) (c + 1)
 mix-exact ks c j h l p e = rw (mix-rounds ks c (omega arith) l, e) (power-exact (total (drop (7 - c) ks)) j h p)
 
--- the Rust's sum starts at negative zero, which never shows
+-- the Rust begins its sum with negative zero, and the sum is the same
 pub sum-start : (k : ℕ) (ks : List ℕ) → k ≤ 2 ^ 24
     → sumFrom (ofBits binary32 0x80000000) (map whole (k ∷ ks)) ≡ sumFrom (ofBits binary32 0) (map whole (k ∷ ks))
 unfolding sumFrom ofBits

@@ -1,4 +1,4 @@
--- A channel's registers and its samples are the wiki's. Assumes nothing.
+-- A channel's registers and its samples are the wiki's (W16, W19). Assumes nothing.
 use Prim.Native.Nat.{ℕ, _%_, _<_}
 use mathlib.Core.Path.{_≡_, refl}
 use mathlib.Core.List.{List}

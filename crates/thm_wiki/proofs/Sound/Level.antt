@@ -1,5 +1,5 @@
--- The level wraps in 8 bits where the wiki's is signed: it is the signed one if the nibble is 8 or more, else 256 times the volume above
--- it. Assumes nothing.
+-- Departure from W20: the level wraps in 8 bits where the wiki's is signed: it is the signed one if the nibble is 8 or more, else 256 times
+-- the volume above it. Assumes nothing.
 use Prim.Native.Nat.{ℕ, suc, _+_, _-_, _*_, _/_, _%_, _≤_, _<_}
 use mathlib.Core.Path.{_≡_, sym, ap, _∙_}
 use mathlib.Core.Bool.{Bool, true, false, cond}

@@ -1,4 +1,5 @@
--- Phases kept apart: a wiki's RAM that holds the port's sound RAM and phases goes on holding them, update by update. Assumes nothing.
+-- Departure from W16, phases kept apart: a wiki's RAM that holds the port's sound RAM and phases goes on holding them, update by update
+-- (W20). Assumes nothing.
 use Prim.Native.Nat.{ℕ, _+_, _/_, _%_, _<_}
 use mathlib.Core.Path.{_≡_, refl, sym, _∙_}
 use mathlib.Core.List.{List}

@@ -1,4 +1,4 @@
--- The port: its reads, its writes and its address are the wiki's. Assumes nothing.
+-- The port: its reads, its writes and its address are the wiki's (W15). Assumes nothing.
 use Prim.Native.Nat.{ℕ, _+_, _/_, _%_, _≤_, _<_}
 use mathlib.Core.Path.{_≡_, refl}
 use mathlib.Core.Bool.{Bool, true, false, cond}

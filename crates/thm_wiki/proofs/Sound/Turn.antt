@@ -1,4 +1,4 @@
--- Which channels sound, and when: those that are enabled, in turn, one every 15 cycles. Assumes nothing.
+-- Which channels sound, and when: those that are enabled (W17), in turn, one every 15 cycles (W18). Assumes nothing.
 use Prim.Native.Nat.{ℕ, zero, suc, _+_, _-_, _/_, _%_, _≤_, _<_}
 use mathlib.Core.Path.{_≡_, refl, ap, _∙_}
 use mathlib.Core.Bool.{true, false}
@@ -24,7 +24,7 @@ pub not-enabled : (outs : List Float) (c k : ℕ) (x : Float) → wikiEnabled c 
 unfolding mixOf sumOf
 not-enabled outs c k x e = rw (drop-set-lt (7 - c) outs k x (omega (arith, leb-false 7 (k + c) e)))
 
--- and `out` is the sum of those that are, divided by their number and rounded once
+-- W21: and `out` is the sum of those that are, divided by their number and rounded once
 all-enabled : (c k : ℕ) (xs : List ℕ) → 7 ≤ k + c → wikiSum c k xs ≡ total xs
 unfolding wikiSum total
 all-enabled c k [] h = refl

@@ -1,4 +1,4 @@
--- `write_work_ram` meets its contract: the step from 340 to Unknown never acts.
+-- `write_work_ram` meets its contract: the step to Unknown is always refused (L10).
 use mathlib.Core.Path.{sym}
 use Rattle.board_registers.proofs.Kept.{never-unknown}
 use Rattle.board_registers.proofs.writes.write_work_ram.Statement.{statement}

@@ -1,4 +1,4 @@
--- The battery region is as long as its used length.
+-- M12: the length of the battery region is the number of its used bytes.
 use Rattle.memory_bytes.specs.Bytes.{sramOf}
 use Rattle.memory.specs.Layout.{regionOf}
 use borrow.Author.Needs.{needs}

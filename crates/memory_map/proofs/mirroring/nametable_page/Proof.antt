@@ -1,4 +1,4 @@
--- A bank modulo the CIRAM pages is one of them.
+-- The remainder by the number of CIRAM pages is the number of one.
 use Prim.Native.Nat.{_/_}
 use native.Mathlib.Omega.{arith}
 use native.Mathlib.Nat.{mod-lt}

@@ -1,8 +1,8 @@
 -- `read` meets its contract: a walk of its code, by hand. The loan is opened, the port is copied out and passed to `step`, of which
 -- only the contract is known, the port that comes back is stored whole, and the loan is closed at it.
 --
--- How to read a walk. A list in brackets is what is owned where it stands: locals by the names of the MIR (`rt mir sound_port` prints it), _0 the
--- answer and _1 the parameter; "room for" a local that has no value yet; and behind each local, as `…`, the right to free it.
+-- How to read a walk. A list in brackets is what is owned where it stands: locals by the names of the MIR (`rt mir sound_port` prints it),
+-- _0 the answer and _1 the parameter; "room for" a local that has no value yet; and behind each local, as `…`, the right to free it.
 -- Steps of the code are `alloc1`, `assigns`, `calls-at`, `land` (a call's answer goes into its local), `returns` and `free1`; in them
 -- `look ! n`, `init ! n` and `store ! n` read, fill and overwrite the n-th of the list. `move`, `keep`, `drop`, `split`, `join` and
 -- `frame` only rearrange the list, `use1` replaces its first by what follows from it, and `peeks`, `heard` and `pick` learn a fact or a
@@ -148,7 +148,8 @@ module _ {M : Type 1} (𝓤 : URA M) (H : Heap 𝓤) (A : Atoms 𝓤) (W : Given
         split ! $ move ! (1 ∷ []) $ use1 W (raw (fact 𝓤 (r ≡ stepOf h))) (stepped r) $ heard ! (r ≡ stepOf h)
         (λ e. split ! $ drop ! $
         peeks ! S.the-row (Is S.the-row) (shows 𝓤 H A S.the-row) r (v ∷ []) (λ is.
-        -- [what the answer owns; the port's cell; what a Port owns; the open borrow; obs; auth; true; true; _3; …; room for _2; …; _1; …; room for _0; …]
+        -- [what the answer owns; the port's cell; what a Port owns; the open borrow; obs; auth; true; true; _3; …; room for _2; …; _1; …;
+        -- room for _0; …]
         -- `let s`: the answer goes into _2
         land ! (from ! (stop !)) (init ! 10 refl (LL.lawful S.the-type S′.the-laws 𝓤 H A W .typed r _ is .0)) $
         rewrite ! 10 (λ (u : Val). ‵ (fat fullShare S′.mir l₂ 0 u)) (ap only (LL.tells S.the-type S′.the-laws r _ is)) refl $

@@ -161,7 +161,8 @@ module _ {M : Type 1} (𝓤 : URA M) (H : Heap 𝓤) (A : Atoms 𝓤) (W : Given
         (fact 𝓤 ((r ≡ byteOf h) × (zs .0 ≡ afterRead h))))) (id⊢ 𝓤 _) $ pick ! (λ zs.
         split ! $ move ! (1 ∷ []) $ heard ! ((r ≡ byteOf h) × (zs .0 ≡ afterRead h)) (λ e. fsplit ! $
         move ! (2 ∷ []) $ split ! $ move ! (1 ∷ []) $ peeks ! u8 (Is u8) (shows 𝓤 H A u8) r (v ∷ []) (λ is.
-        -- [what the byte owns; the token; the last port; true; the lender's part; _5; …; _4; …; room for _3; …; _2's end; _1; …; room for _0; …]
+        -- [what the byte owns; the token; the last port; true; the lender's part; _5; …; _4; …; room for _3; …; _2's end; _1; …;
+        -- room for _0; …]
         -- `let byte`: the answer goes into _3
         land ! (from ! (stop !)) (init ! 9 refl (uint-lawful 𝓤 H A W w8 .typed r _ is .0)) $ rewrite ! 9
         (λ (u : Val). ‵ (fat fullShare (tyInt w8) l₃ 0 u)) (ap only (is .0)) refl $
