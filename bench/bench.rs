@@ -1,3 +1,4 @@
+// SPDX-License-Identifier: MIT OR Apache-2.0
 //! The proved run against the Rust's `Audio`, stepped clock by clock and update by update, in one process.
 //! Samples are compared bit by bit before anything is timed. Clock by clock is measured twice: with one call for each clock, as an emulator
 //! steps the chip between the cycles of its CPU, and with all clocks of a run in one loop that the compiler sees whole.

@@ -1,10 +1,12 @@
-/* The five calls and the header's helpers, from C99 and C++11: answers, refusals in their order, and what a refused call leaves as it was. */
+/* SPDX-License-Identifier: MIT OR Apache-2.0 */
+/* The five calls and the header's helpers, from C99 and C++11: answers, refusals in their order, and what a refused call leaves as it
+ * was. */
 #include <stdio.h>
 #include <stdlib.h>
 
 #include "namco163.h"
 
-/* 01's layout P: 52 pages. */
+/* T0: layout P, 52 pages. */
 enum { ARENA = 53248, SAMPLES = 4 * 4370 + 3 };
 
 static uint8_t image[NAMCO163_IMAGE_SIZE + 1], arena[ARENA + 1], samples[SAMPLES];
@@ -74,7 +76,7 @@ static void test_sizes(void) {
     CHECK(!strcmp(namco163_refusal_text(13), "no refusal has this number"));
 }
 
-/* A load does not read the image, zeroes the arena, and writes 01's bits. */
+/* H4, R5, H1: a load does not read the image, zeroes the arena, and writes the image of the new state. */
 static void test_load(void) {
     static const uint8_t start[8] = {0x00, 0x00, 0x00, 0x08, 0x00, 0x98, 0x00, 0x80}, end[4] = {0x08, 0x04, 0x41, 0x05};
     size_t zeros = 0;
@@ -97,7 +99,7 @@ static void test_load(void) {
     CHECK(kept());
 }
 
-/* Words of answers: a read's byte, a write's masks. */
+/* H6: a read's byte, a write's masks. */
 static void test_answers(void) {
     uint64_t answer = write_at(0x8000, 0xE1);
     EQUAL(answer, 0x100);
@@ -148,7 +150,7 @@ static void test_run(void) {
     CHECK(kept());
 }
 
-/* A soft reset keeps the IRQ line, a hard one takes it down; both clear the sound RAM. */
+/* C7: a soft reset keeps the IRQ line, a hard one takes it down; both clear the sound RAM. */
 static void test_reset(void) {
     EQUAL(write_at(0x5000, 0xFE), 0);
     EQUAL(write_at(0x5800, 0xFF), 0);
@@ -177,7 +179,8 @@ static void lend_prg(unsigned first, unsigned page, unsigned count) {
     }
 }
 
-/* Images that no list of calls from a load makes: the store goes by the entries before the write, at every address; a rise with the line already up. */
+/* Images that no list of calls from a load makes (R10): stores by the table as it was, at E000, 8000 and 4800 (L7); a rise while the line
+ * is up (C1). */
 static void test_lent_states(void) {
     EQUAL(load(19, 1, 32768, 128), 0);
     lend_prg(56, 41, 8); /* PRG-RAM at E000 */
@@ -206,7 +209,7 @@ static void test_lent_states(void) {
     CHECK(image[0] == 0xFF && image[1] == 0xFF && image[2] & 0x80);
 }
 
-/* Refusals of a load, by 01's order: 1 4 5 6 7. */
+/* N20: refusals of a load, in their order: 1 4 5 6 7. */
 static void test_refused_loads(void) {
     keep();
     EQUAL(namco163_load(image, 306, arena, 0, 20, 0, 0, 1, 524289, 0, 0, 0, 0, 0), NAMCO163_IMAGE_LENGTH);
@@ -222,7 +225,7 @@ static void test_refused_loads(void) {
     CHECK(kept());
 }
 
-/* Refusals of the other calls: 1 2 7 8 of reads and writes, 1 2 10 11 of runs, 1 2 3 of resets. */
+/* N20: refusals of the other calls: 1 2 7 8 of reads and writes, 1 2 10 11 of runs, 1 2 3 of resets. */
 static void test_refused_calls(void) {
     EQUAL(load(19, 1, 32768, 128), 0);
     EQUAL(run(14), 0);

@@ -1,3 +1,4 @@
+// SPDX-License-Identifier: MIT OR Apache-2.0
 //! Links the archive that `rt staticlib host` makes.
 
 fn main() {

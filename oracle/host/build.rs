@@ -1,3 +1,4 @@
+// SPDX-License-Identifier: MIT OR Apache-2.0
 //! Links libhost.a, from the folder that HOST_ARCHIVE names, else from the repository's target/staticlib.
 
 use std::{

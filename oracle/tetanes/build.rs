@@ -1,3 +1,4 @@
+// SPDX-License-Identifier: MIT OR Apache-2.0
 //! Finds m019_namco163.rs and memory.rs and writes the lines that compile them where they lie.
 
 use std::{

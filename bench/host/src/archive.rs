@@ -1,4 +1,5 @@
-//! The archive's five calls on one cartridge.
+// SPDX-License-Identifier: MIT OR Apache-2.0
+//! Four of the archive's five calls, all but the reset, on one cartridge.
 
 use crate::functions::{namco163_load, namco163_read, namco163_run, namco163_write};
 

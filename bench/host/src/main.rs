@@ -1,3 +1,4 @@
+// SPDX-License-Identifier: MIT OR Apache-2.0
 //! The archive and the unchanged Rust on the same work, in one process: every answer and sample is compared first, then both are timed.
 
 mod archive;

@@ -1,3 +1,4 @@
+// SPDX-License-Identifier: MIT OR Apache-2.0
 //! The unchanged Rust on the same cartridge, stepped clock by clock.
 
 use tetanes::{
@@ -56,7 +57,7 @@ impl Reference {
         self.run(clocks, |board| board.chip.clock())
     }
 
-    /// Samples from bit 8, rise from bit 32, as the archive answers.
+    /// H6: the number of samples and the rise, in the bits of the archive's answer.
     #[inline(always)]
     fn run(&mut self, clocks: u64, step: impl Fn(&mut Self)) -> u64 {
         let (mut made, mut rise) = (0, 0);

@@ -1,3 +1,4 @@
+// SPDX-License-Identifier: MIT OR Apache-2.0
 //! Calls of the archive on lent bytes.
 
 use crate::{functions::*, lent::Lent};

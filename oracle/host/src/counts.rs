@@ -1,3 +1,4 @@
+// SPDX-License-Identifier: MIT OR Apache-2.0
 //! What was called, how it was answered, and what else was reached.
 
 use oracle::host::HostCall;

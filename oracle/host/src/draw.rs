@@ -1,3 +1,4 @@
+// SPDX-License-Identifier: MIT OR Apache-2.0
 //! Random arguments of calls.
 
 use crate::pair::{Compared, Pair};

@@ -1,3 +1,4 @@
+// SPDX-License-Identifier: MIT OR Apache-2.0
 //! The archive's five functions, as include/namco163.h declares them. The benchmark uses this file too.
 
 use std::ffi::c_void;

@@ -1,3 +1,4 @@
+// SPDX-License-Identifier: MIT OR Apache-2.0
 //! Bytes that are lent to the archive, with guard bytes before and behind them.
 
 use std::ffi::c_void;

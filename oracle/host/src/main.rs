@@ -1,3 +1,4 @@
+// SPDX-License-Identifier: MIT OR Apache-2.0
 //! `host-test`: the C archive against the unchanged Rust, call by call.
 
 mod archive;

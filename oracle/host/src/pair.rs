@@ -1,3 +1,4 @@
+// SPDX-License-Identifier: MIT OR Apache-2.0
 //! The archive and the Rust, side by side: both are lent the same, get the same calls, and are compared after each.
 
 use crate::{archive, counts::Counts, lent::Lent};

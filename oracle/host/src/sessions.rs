@@ -1,3 +1,4 @@
+// SPDX-License-Identifier: MIT OR Apache-2.0
 //! Random sessions from a load on: the oracle's generator makes the calls, and those that no host has are what a host does by itself.
 
 use crate::{
@@ -68,7 +69,8 @@ fn edit(session: &mut Session, call: Call) {
     };
 }
 
-/// A refused load leaves the session in place. An accepted one is lent any bytes, and then bytes are put into the arena, as from a ROM file.
+/// A refused load leaves the session in place. An accepted one is lent any bytes, and then bytes are put into the arena, as from a ROM
+/// file.
 fn load(pair: &mut Pair, rng: &mut Rng, named: Load) -> Compared<()> {
     let mut load = Load { in_database: yes_no(rng, named.in_database), chr_ram: yes_no(rng, named.chr_ram), ..named };
     if rng.once_in(32) {

@@ -1,3 +1,4 @@
+// SPDX-License-Identifier: MIT OR Apache-2.0
 //! States in range that no load reaches: the image is the oracle's encoding of a random state, and the Rust starts at that state.
 
 use crate::{

@@ -1,3 +1,4 @@
+// SPDX-License-Identifier: MIT OR Apache-2.0
 //! Unfit calls: damaged images, wrong lengths, numbers out of bounds, alone and together.
 
 mod fields;
@@ -122,8 +123,8 @@ fn each_call(pair: &mut Pair, rng: &mut Rng, base: &Base, image: &[u8]) -> Compa
     Ok(())
 }
 
-/// Each entry at the last page of the arena, at the first behind it, and at the last that the image can hold, with and without the flag, also where the
-/// lent arena has that page.
+/// Each entry at the last page of the arena, at the first behind it, and at the last that the image can hold, with and without the flag,
+/// also where the lent arena has that page.
 fn entries(pair: &mut Pair, rng: &mut Rng, base: &Base) -> Compared<()> {
     let pages = base.arena.len() as u64 / PAGE;
     for index in 0..fields::ENTRIES {

@@ -1,3 +1,4 @@
+// SPDX-License-Identifier: MIT OR Apache-2.0
 //! Compares an answers file with the answers of the Rust.
 
 use crate::player::{Player, is_free_error};

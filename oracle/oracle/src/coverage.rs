@@ -1,3 +1,4 @@
+// SPDX-License-Identifier: MIT OR Apache-2.0
 //! What a list of calls reaches, counted from the states that it is played through and from its answers.
 //!
 //! Each area names all its classes, so that one that is never reached shows with a count of 0.
@@ -130,7 +131,7 @@ impl Counter<'_> {
         }
     }
 
-    /// What the reading notes on 01 say that no list from a load shows. It is not listed, so a hit is a failure.
+    /// What R10 lets a lent state have or do, and no list from a load shows. It is not listed, so a hit is a failure.
     fn never(&mut self, condition: bool, what: &str) {
         self.hit_if(condition, format!("never: {what}"));
     }

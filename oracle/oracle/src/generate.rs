@@ -1,3 +1,4 @@
+// SPDX-License-Identifier: MIT OR Apache-2.0
 //! Random sessions in the replay program's language. A seed gives the same calls everywhere.
 
 mod actions;

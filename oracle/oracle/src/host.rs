@@ -1,4 +1,5 @@
-//! The host's five calls on an image, an arena and sample bytes, by the Rust (01, 'Host and image' and 'Refused calls').
+// SPDX-License-Identifier: MIT OR Apache-2.0
+//! The host's five calls on an image, an arena and sample bytes, by the Rust: H4 to H8, and N20's rows of a C host.
 
 use crate::{
     image::{self, LEN},
@@ -94,14 +95,14 @@ impl Host {
         }
     }
 
-    /// The lent image is not read.
+    /// H4: the lent image is not read.
     fn load(&mut self, load: &Load) -> Result<u64, Refusal> {
         self.session = Session::load(load, self.arena().len() as u64)?;
         self.unread = None;
         Ok(0)
     }
 
-    /// Whole groups of 4 bytes count as room; a sample has its most significant byte first.
+    /// N11, H7: each four bytes have room for a sample, whose most significant byte comes first.
     fn run(&mut self, clocks: u64) -> Result<u64, Refusal> {
         let mut samples = vec![0.0; self.samples.len() / 4];
         let ran = self.state()?.run(clocks, &mut samples)?;
@@ -112,18 +113,18 @@ impl Host {
     }
 }
 
-/// "a read's byte from bit 8".
+/// H6: the byte in bits 8..15.
 pub fn read_word(byte: u8) -> u64 {
     u64::from(byte) << 8
 }
 
-/// "a write's CHR mask from bit 8 and PRG mask at its own bits 24..63".
+/// H6: the CHR mask in bits 8..23; the PRG mask stands where it is, since its bits 0..23 are 0 (L15).
 pub fn write_word(Written { prg, chr }: Written) -> u64 {
     assert_eq!(prg.mask & 0xFF_FFFF, 0, "no write changes PRG entries 0..23");
     chr.mask << 8 | prg.mask
 }
 
-/// "a run's samples from bit 8, rise from bit 32".
+/// H6: the number of samples in bits 8..31, the rise in bits 32..63.
 pub fn run_word(Ran { made, rise }: Ran) -> u64 {
     made << 8 | rise << 32
 }

@@ -1,4 +1,5 @@
-//! The 307-byte image, written from 01's paragraph 'Host and image'.
+// SPDX-License-Identifier: MIT OR Apache-2.0
+//! The image of 307 bytes, by H1.
 
 use crate::{
     layout::{Layout, PAGE},
@@ -135,7 +136,7 @@ impl Unpacker<'_> {
     }
 }
 
-/// The state of an image, with an arena of no bytes: 01's image reading.
+/// Image reading, refused by N1 and N2: the state of an image, with an arena of no bytes.
 pub fn decode(bytes: &[u8]) -> Result<Session, Refusal> {
     Refusal::ImageLength.when(bytes.len() != LEN)?;
     let mut unpacker = Unpacker { bytes, bit: 0 };

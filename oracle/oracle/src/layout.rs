@@ -1,4 +1,5 @@
-//! Sizes: in bytes as a load names them, in pages as a state holds them.
+// SPDX-License-Identifier: MIT OR Apache-2.0
+//! Sizes: in bytes as a load names them (R1), in pages as a state holds them (R2), and where regions lie (R4).
 
 use std::ops::Range;
 use tetanes::memory::{Memory, Src};

@@ -1,3 +1,4 @@
+// SPDX-License-Identifier: MIT OR Apache-2.0
 //! Answers lists of calls by the unchanged Rust, and makes such lists.
 
 pub mod compare;

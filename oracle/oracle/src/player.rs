@@ -1,3 +1,4 @@
+// SPDX-License-Identifier: MIT OR Apache-2.0
 //! Plays lines of calls and prints their answers.
 
 use crate::{

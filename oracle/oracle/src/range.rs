@@ -1,4 +1,5 @@
-//! When a state is in range (01, 'Records').
+// SPDX-License-Identifier: MIT OR Apache-2.0
+//! When a state is in range: R9.
 
 use crate::layout::{Layout, PAGE};
 use tetanes::{

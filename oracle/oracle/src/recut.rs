@@ -1,4 +1,5 @@
-//! Cuts the runs of a list differently: the same other calls, and as many accepted clocks in each stretch.
+// SPDX-License-Identifier: MIT OR Apache-2.0
+//! Cuts the runs of a list differently: the same other calls, and as many accepted clocks in each stretch (D3.1).
 
 use crate::{
     compare::lines,
@@ -9,11 +10,14 @@ use crate::{
     text::{Call, Line, parse},
 };
 
+/// The new list. Its first line is a comment that says what it is; it takes the place of such a line of the given list, and repeats it.
 pub fn recut(calls: &[u8], seed: u64) -> Vec<u8> {
     let mut original = Player::default();
     let mut cutter = Cutter { rng: Rng::new(seed), player: Player::default(), out: Vec::new() };
     let mut clocks = 0;
-    for line in lines(calls) {
+    let title = lines(calls).next().and_then(comment);
+    cutter.line(&titled(seed, title));
+    for line in lines(calls).skip(usize::from(title.is_some())) {
         match run_clocks(&original, line) {
             Some(n) => {
                 let accepted = original.line(line).is_some_and(|answer| answer.starts_with("ok"));
@@ -30,6 +34,21 @@ pub fn recut(calls: &[u8], seed: u64) -> Vec<u8> {
     }
     cutter.stretch(clocks);
     cutter.out
+}
+
+/// What a comment says.
+fn comment(line: &[u8]) -> Option<&[u8]> {
+    let text = line.strip_prefix(b"#")?;
+    matches!(parse(line), Line::Nothing).then(|| text.strip_prefix(b" ").unwrap_or(text))
+}
+
+fn titled(seed: u64, title: Option<&[u8]>) -> Vec<u8> {
+    let mut line = format!("# oracle recut: seed {seed}").into_bytes();
+    if let Some(title) = title {
+        line.extend_from_slice(b", of: ");
+        line.extend_from_slice(title);
+    }
+    line
 }
 
 /// Writes the new list and plays it, since the room that a piece needs depends on the state.

@@ -1,4 +1,5 @@
-//! The numbers of refused calls, as 01 lists them.
+// SPDX-License-Identifier: MIT OR Apache-2.0
+//! The numbers of refused calls: N1 to N12.
 
 #[derive(Debug, Copy, Clone, PartialEq, Eq, PartialOrd, Ord)]
 pub enum Refusal {

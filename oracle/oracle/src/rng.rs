@@ -1,3 +1,4 @@
+// SPDX-License-Identifier: MIT OR Apache-2.0
 //! A small random number generator (splitmix64), so that a seed names the same session everywhere.
 
 use crate::layout::PAGE;

@@ -1,3 +1,4 @@
+// SPDX-License-Identifier: MIT OR Apache-2.0
 //! `oracle self-test`.
 
 mod bench;
@@ -56,7 +57,7 @@ fn twelve_cases(failures: &mut Vec<String>) {
         println!("  {} {name}", if holds { "holds" } else { "FAILS" });
         hold += usize::from(holds);
     }
-    println!("twelve cases of the table: {hold} hold");
+    println!("cases T1 to T12: {hold} hold");
 }
 
 fn edge_results(failures: &mut Vec<String>) {

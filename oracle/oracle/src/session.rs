@@ -1,6 +1,7 @@
-//! A loaded cartridge: the Rust's `Namco163` and `Memory`, and the calls as 01 composes them, with 01's refusals in 01's order.
+// SPDX-License-Identifier: MIT OR Apache-2.0
+//! A loaded cartridge: the Rust's `Namco163` and `Memory`, and the calls, put together from theirs (L7 to L9), with the refusals N.
 //!
-//! The Rust's `Memory` holds both what 01 calls the state (entries, layout, used length) and the lent arena (`data`). Both can be set
+//! The Rust's `Memory` holds both a part of the state (R8: entries, layout, used length) and the lent arena (`data`). Both can be set
 //! through the accessors, so that a call can be given a state out of range or an arena of another length.
 
 use crate::{
@@ -26,7 +27,7 @@ pub struct Session {
     pub memory: Memory,
 }
 
-/// The changed entries of one page table.
+/// L15: the changed entries of one page table.
 #[derive(Debug, Clone, Copy, PartialEq, Eq)]
 pub struct Changed {
     pub mask: u64,
@@ -50,7 +51,7 @@ pub struct Written {
     pub chr: Changed,
 }
 
-/// A run's answer: the samples made, and the clock of the rise, from 1, or 0.
+/// C5: how many samples a run made, and which of its clocks, from 1 on, was a rise; 0 if none was.
 #[derive(Debug, Clone, Copy, PartialEq, Eq)]
 pub struct Ran {
     pub made: u64,
@@ -128,7 +129,7 @@ impl Session {
         Ok(())
     }
 
-    /// Start and length. It reads no byte, so it does not take the arena.
+    /// M13: start and length. It reads no byte, so it does not take the arena.
     pub fn sram(&self) -> Result<(u64, u64), Refusal> {
         self.refuse_state()?;
         let range = self.memory.raw_sram_range();
@@ -204,7 +205,7 @@ impl Session {
     }
 }
 
-/// What one clock shows.
+/// What one clock shows (C1, C2).
 struct SingleClock {
     sample: Option<f32>,
     rise: bool,
@@ -236,7 +237,7 @@ fn cart(load: &Load) -> Cart {
     }
 }
 
-/// How many samples a run of that many clocks makes, by 01's closed form; the generator chooses rooms by it.
+/// C6: how many samples a run of that many clocks makes; the generator and `recut` choose rooms by it.
 pub fn samples_made(chip: &Namco163, clocks: u64) -> u64 {
     if chip.board == Board::Namco163 && !chip.audio.disabled { (u64::from(chip.audio.update_counter) + clocks) / 15 } else { 0 }
 }

@@ -1,3 +1,4 @@
+// SPDX-License-Identifier: MIT OR Apache-2.0
 //! Random states in range, most of which no list of calls from a load reaches.
 
 use crate::{

@@ -1,4 +1,5 @@
-//! What demand 3 compares: the samples and rises of each stretch, and the answers of the other calls.
+// SPDX-License-Identifier: MIT OR Apache-2.0
+//! What D3.1 compares (C19): the samples and rises of each stretch, and the answers of the other calls.
 
 use crate::{
     compare::lines,
@@ -6,7 +7,7 @@ use crate::{
     text::{Call, Line, parse},
 };
 
-/// The runs between two neighbouring other calls.
+/// C13, C14: the runs between two neighbouring other calls, before the first, or behind the last.
 #[derive(Debug, Default, Clone, PartialEq, Eq)]
 pub struct Stretch {
     /// Clocks of the accepted runs.

@@ -1,3 +1,4 @@
+// SPDX-License-Identifier: MIT OR Apache-2.0
 //! The replay program's language: one call a line.
 
 use crate::layout::{Load, Region};

@@ -1,3 +1,4 @@
+// SPDX-License-Identifier: MIT OR Apache-2.0
 //! Stands in for cart.rs: what `Namco163::load` asks a cartridge.
 
 use crate::{memory::Memory, ppu::Mirroring};

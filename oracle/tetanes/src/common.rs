@@ -1,3 +1,4 @@
+// SPDX-License-Identifier: MIT OR Apache-2.0
 //! Stands in for common.rs.
 
 #[derive(Debug, Copy, Clone, PartialEq, Eq)]

@@ -1,3 +1,4 @@
+// SPDX-License-Identifier: MIT OR Apache-2.0
 //! Stands in for mapper.rs: the trait that boards implement, and what `Namco163::load` answers.
 
 use crate::{common::ResetKind, m019_namco163::Namco163, memory::Memory, ppu::Mirroring};

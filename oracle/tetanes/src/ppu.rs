@@ -1,3 +1,4 @@
+// SPDX-License-Identifier: MIT OR Apache-2.0
 //! Stands in for ppu.rs: the mirrorings, by the Rust's numbers.
 
 #[derive(Default, Debug, Copy, Clone, PartialEq, Eq)]

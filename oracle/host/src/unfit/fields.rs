@@ -1,4 +1,5 @@
-//! The image's fields that can be out of range, by their first bits (01, 'Host and image').
+// SPDX-License-Identifier: MIT OR Apache-2.0
+//! The image's fields that can be out of range (R9), by their first bits (H1).
 
 use oracle::rng::Rng;
 

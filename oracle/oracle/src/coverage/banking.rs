@@ -1,10 +1,11 @@
+// SPDX-License-Identifier: MIT OR Apache-2.0
 //! CPU writes: ranges and their edges, boards and how they are found, slots, masks, mirrorings, stores.
 
 use super::{Counter, Played, View};
 use crate::text::Call;
 use tetanes::{m019_namco163::Board, memory::Page, ppu::Mirroring};
 
-/// The reading notes' rows of `write_register`.
+/// L11's rows; 8000..BFFF is two, by the selects of L12.
 const ROWS: [(&str, u16, u16); 12] = [
     ("4800..4FFF", 0x4800, 0x4FFF),
     ("5000..57FF", 0x5000, 0x57FF),
@@ -112,7 +113,7 @@ fn never_from_a_load(after: &View, counter: &mut Counter) {
     let mut slots = after.chip.nt_bank_enable.iter().zip(after.chip.chr_banks);
     counter.never(slots.any(|(flag, bank)| *flag && bank > 1), "a CIRAM bank above 1");
     counter.never(after.prg[..24].iter().any(|page| *page != Page::UNMAPPED), "PRG 0..23 mapped");
-    counter.never(after.board() == "Unknown" && !after.chip.auto_detect_board, "an Unknown that is not detecting");
+    counter.never(after.board() == "Unknown" && !after.chip.auto_detect_board, "an Unknown that does not detect");
 }
 
 fn row(addr: u16) -> &'static str {

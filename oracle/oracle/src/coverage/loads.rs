@@ -1,3 +1,4 @@
+// SPDX-License-Identifier: MIT OR Apache-2.0
 //! Loads: boards, sizes, refusals.
 
 use super::{Counter, Played};

@@ -1,3 +1,4 @@
+// SPDX-License-Identifier: MIT OR Apache-2.0
 //! Fills, region calls, battery, resets, and the looks at image and arena.
 
 use super::{BOARDS, Counter, Played, View};

@@ -1,3 +1,4 @@
+// SPDX-License-Identifier: MIT OR Apache-2.0
 //! Reads, peeks and addresses: edges of every range, the sound port, CHR.
 
 use super::{Counter, Played, View};

@@ -1,3 +1,4 @@
+// SPDX-License-Identifier: MIT OR Apache-2.0
 //! Runs: lengths, rooms, rises, updates.
 
 use super::{BOARDS, Counter, Played, View};

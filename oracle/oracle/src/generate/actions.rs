@@ -1,3 +1,4 @@
+// SPDX-License-Identifier: MIT OR Apache-2.0
 //! What a session does. An action says a few calls that belong together.
 
 use super::{Generator, loads};

@@ -1,3 +1,4 @@
+// SPDX-License-Identifier: MIT OR Apache-2.0
 //! Arguments of loads: usual, odd, empty and largest sizes, and every way to be refused.
 
 use crate::{

@@ -1,4 +1,5 @@
-//! The carts of the reading notes on 01 and short ways to drive and look at them.
+// SPDX-License-Identifier: MIT OR Apache-2.0
+//! The carts of the tests, and short ways to drive and look at them.
 
 use oracle::{
     layout::{Load, PAGE},
@@ -8,7 +9,7 @@ use oracle::{
 use std::ops::Range;
 use tetanes::memory::Page;
 
-/// 01's layout P: a 163 with a database entry.
+/// T0: layout P, a 163 with a database entry.
 pub const P: Load = Load {
     mapper: 19,
     submapper: 0,
@@ -21,9 +22,9 @@ pub const P: Load = Load {
     chr_ram: 0,
     ciram: 2_048,
 };
-/// P without database entry: a 163 that is detecting.
+/// L3: P in no database, a 163 that detects.
 pub const D: Load = Load { in_database: 0, ..P };
-/// Unknown, detecting.
+/// L4: Unknown, detecting.
 pub const U: Load = Load { mapper: 210, in_database: 0, ..P };
 pub const N175: Load = Load { mapper: 210, submapper: 1, battery: 0, ..P };
 pub const N340: Load = Load { mapper: 210, submapper: 2, battery: 0, ..P };
@@ -142,7 +143,7 @@ fn parts(entry: &str) -> (u64, bool) {
     (number.parse().expect("an entry is a page number"), number != entry)
 }
 
-/// Entries in the reading notes' notation: `41w` is page 41 with the flag, `1..8` eight pages, `0*8` one entry eight times.
+/// Entries as the tests write them: `41w` is page 41 with the flag, `1..8` eight pages, `0*8` one entry eight times.
 pub fn pages(notation: &str) -> Vec<String> {
     let part = |part: &str| -> Vec<String> {
         if let Some((first, last)) = part.split_once("..") {
@@ -155,7 +156,7 @@ pub fn pages(notation: &str) -> Vec<String> {
     notation.split(',').flat_map(part).collect()
 }
 
-/// A table's answer as the reading notes on 01 write it: mask, count, lowest.
+/// L15: what a write answers of one table: mask, count, lowest.
 pub fn changed(mask: u64, count: u32, lowest: u32) -> Changed {
     Changed { mask, count, lowest }
 }

@@ -1,3 +1,4 @@
+// SPDX-License-Identifier: MIT OR Apache-2.0
 //! Counts results that hold and keeps what was expected and what came where one does not.
 
 use std::fmt::Debug;

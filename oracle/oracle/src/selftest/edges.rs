@@ -1,4 +1,5 @@
-//! Results that the reading notes on 01 give, on the Rust; a file for each of its sections.
+// SPDX-License-Identifier: MIT OR Apache-2.0
+//! Results at the edges of the clauses of docs/SCOPE.md, on the Rust: a file for each letter, and one for L11.
 
 mod clock;
 mod host;
@@ -12,12 +13,12 @@ mod sound;
 use super::checks::Check;
 
 pub const SECTIONS: [(&str, Check); 8] = [
-    ("Records", records::check),
-    ("Memory", memory::check),
-    ("Load, detection and banking", load::check),
-    ("The table of `write_register`", registers::check),
-    ("Sound", sound::check),
-    ("Clock, reset, battery", clock::check),
-    ("Host and image", host::check),
-    ("Refused calls", refusals::check),
+    ("R: records", records::check),
+    ("M: memory", memory::check),
+    ("L: load, detection and banking", load::check),
+    ("L11: register writes", registers::check),
+    ("S: sound", sound::check),
+    ("C: clocks, reset, battery", clock::check),
+    ("H: host and image", host::check),
+    ("N: refused calls", refusals::check),
 ];

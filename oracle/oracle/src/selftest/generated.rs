@@ -1,8 +1,9 @@
+// SPDX-License-Identifier: MIT OR Apache-2.0
 //! Tests of the generator, of recutting and of the comparison.
 
 use super::checks::Checks;
 use oracle::{
-    compare::compare,
+    compare::{compare, lines},
     coverage::Coverage,
     generate::{Recorded, generate},
     player::Player,
@@ -41,7 +42,7 @@ pub fn repeatable(t: &mut Checks) {
     }
 }
 
-/// Demand 3 on the Rust: with runs cut differently, other answers, joined samples and rises are the same.
+/// D3.1 on the Rust: with runs cut differently, other answers, joined samples and rises are the same.
 pub fn recuts(t: &mut Checks) {
     for seed in 0..8 {
         let calls = generate(seed, 4_000).calls_text().into_bytes();
@@ -49,7 +50,9 @@ pub fn recuts(t: &mut Checks) {
         for cut in 0..3 {
             let cut_calls = recut(&calls, cut);
             let what = format!("seed {seed}, cut {cut}");
-            t.holds(&format!("{what}: the list is another"), cut_calls != calls);
+            let title = format!("# oracle recut: seed {cut}, of: oracle generate: seed {seed}, 4000 calls");
+            t.eq(&format!("{what}: first line"), lines(&cut_calls).next(), Some(title.as_bytes()));
+            t.holds(&format!("{what}: the list is another"), lines(&cut_calls).skip(1).ne(lines(&calls).skip(1)));
             t.eq(&format!("{what}: first other trace"), first_difference(&trace, &Trace::of(&cut_calls)), None);
         }
         let heard = trace.stretches.iter().any(|stretch| stretch.samples.iter().any(|sample| sample != "$00000000"));
@@ -72,7 +75,7 @@ fn first_difference(left: &Trace, right: &Trace) -> Option<String> {
     }
 }
 
-/// The reading notes on 01, 'Rises': "the last run answers rise 1, and its stretch's rises are [2]".
+/// C14: a stretch's rises count the clocks since the load, where C5's answer counts those of the run.
 fn rises_since_load(t: &mut Checks) {
     let calls = "load 19 0 0 1 32768 8192 128 8192 0 2048\nwrite $5000 $FD\nwrite $5800 $FF\nrun 1 0\nread $6000\nrun 5 0\n";
     let mut player = Player::default();

@@ -1,4 +1,6 @@
-//! Tests of the image's writing and reading: a fresh P, the first bit of every field, what is out of range, and both round trips.
+// SPDX-License-Identifier: MIT OR Apache-2.0
+//! Tests of the image's writing and reading (H1 to H3): a fresh P, the first bit of every field, what is out of range, and both round
+//! trips.
 
 use super::{
     bench::{Handy, P, loaded, number, refusal},
@@ -16,8 +18,8 @@ use tetanes::{m019_namco163::Board, ppu::Mirroring};
 type Lending = fn(&mut Session);
 type Numbers = &'static [u64];
 
-/// The reading notes' 'First bits': field, first bit, width of one number, how many, and how to give the first and the last of them the
-/// greatest number that the field can be lent (in range, so that the image can be written).
+/// H1: field, first bit, width of one number, how many, and how to give the first and the last of them the greatest number that the field
+/// can be lent (in range, so that the image can be written).
 const FIELDS: &[(&str, usize, usize, usize, Lending)] = &[
     ("counter", 0, 16, 1, |s| s.chip.regs.irq_counter = 0xFFFF),
     ("pending", 16, 1, 1, |s| s.chip.regs.irq_pending = true),
@@ -40,7 +42,7 @@ const FIELDS: &[(&str, usize, usize, usize, Lending)] = &[
     }),
 ];
 
-/// Fields whose bits cannot all be set in range: field, first bit, width, number lent, how.
+/// H1: fields whose bits cannot all be set in range: field, first bit, width, number lent, how.
 const NUMBERS: &[(&str, usize, usize, u64, Lending)] = &[
     ("Unknown", 27, 2, 0, |s| s.chip.board = Board::Unknown),
     ("163", 27, 2, 1, |s| s.chip.board = Board::Namco163),
@@ -108,7 +110,7 @@ fn with_number(mut image: [u8; LEN], first: usize, width: usize, value: u64) -> 
     image
 }
 
-/// Fields of a fresh P's image that can be out of range: field, first bit, width, how many, numbers in range, numbers out of it.
+/// R9: fields of a fresh P's image that can be out of range: field, first bit, width, how many, numbers in range, numbers out of it.
 const RANGES: &[(&str, usize, usize, usize, Numbers, Numbers)] = &[
     ("mapper", 29, 16, 1, &[19, 210], &[0, 18, 20, 209, 211, 0x1300, 0xFFFF]),
     ("mirroring", 54, 3, 1, &[0, 1, 2, 3, 4], &[5, 6, 7]),
@@ -143,7 +145,7 @@ fn reads_back(image: &[u8; LEN]) -> bool {
     decode(image).is_ok_and(|session| encode(&session) == *image)
 }
 
-/// "Nothing else": an image with any bit of another field flipped is read, and written as it was.
+/// R9: no other field can be out of range. An image with any bit of such a field flipped is read, and written as it was.
 fn other_bits(t: &mut Checks, fresh: &[u8; LEN]) {
     let ranged = |bit: usize| RANGES.iter().any(|(_, first, width, count, ..)| (*first..first + width * count).contains(&bit));
     for bit in (0..LEN * 8).filter(|bit| !ranged(*bit)) {
@@ -153,7 +155,7 @@ fn other_bits(t: &mut Checks, fresh: &[u8; LEN]) {
     }
 }
 
-/// "Reading what a state in range was written to gives that state".
+/// H3: states in range are read back from their images.
 fn round_trips(t: &mut Checks) {
     let mut rng = Rng::new(1);
     for _ in 0..500 {
@@ -171,7 +173,7 @@ fn image(session: &Session) -> [u8; LEN] {
     buffer
 }
 
-/// "Fresh P → bytes 0..7 = 00 00 00 08 00 98 00 80, 151..152 = 00 07, 303..306 = 08 04 41 05."
+/// H1: the image of a fresh P, up to the entries and behind them.
 fn fresh(t: &mut Checks) {
     let image = image(&loaded(P));
     t.eq("bytes 0..7", &image[..8], &[0x00, 0x00, 0x00, 0x08, 0x00, 0x98, 0x00, 0x80]);

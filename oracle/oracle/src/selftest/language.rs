@@ -1,3 +1,4 @@
+// SPDX-License-Identifier: MIT OR Apache-2.0
 //! The replay program's language: lines and their answers.
 
 use super::checks::Checks;
@@ -92,7 +93,7 @@ fn malformed(t: &mut Checks) {
     t.holds("bytes that are no text", matches!(parse(&[b'r', 0xFF]), Line::Malformed(_)));
 }
 
-/// A short session with the answers that DESIGN's table gives.
+/// A short session, with answers in the forms of README.md's table of lines.
 const SESSION: [(&str, &str); 27] = [
     ("sram", NO_CARTRIDGE),
     ("load 20 0 0 1 32768 8192 128 8192 0 2048", "refused 4"),

@@ -1,4 +1,5 @@
-//! 01's table of proved cases, on the Rust.
+// SPDX-License-Identifier: MIT OR Apache-2.0
+//! The cases T1 to T12, on the Rust.
 
 use super::{
     bench::{Handy, P, loaded, number, pages, try_load, written},
@@ -8,18 +9,18 @@ use super::{
 use oracle::{layout::Load, session::Ran};
 
 pub const CASES: [(&str, Check); 12] = [
-    ("1. E000 holds page 25; bank 3F at 8000 also gives 25", last_bank),
-    ("2. 8000 = E1 gives CIRAM page 51", ciram),
-    ("3. the same after E800 = 40 gives CHR page 34", ciram_selected_off),
-    ("4. 8000 = DF gives page 40", chr),
-    ("5. counter FFFE: one clock pends", pends),
-    ("6. counter 8000: clear after 32,766, pending after 32,767", longest),
-    ("7. counters 7FFE and FFFF never move", still),
-    ("8. wave bytes FC, FF give 4; 00, 03 give 256", lengths),
-    ("9. volume 15: nibbles 0, 7, 8, F give 3720, 3825, 0, 105", levels),
-    ("10. c = 2, outputs 1, 0, 0: `out` bits 3EAAAAAB", thirds),
-    ("11. 14 clocks from fresh: no update; 15: one", first_update),
-    ("12. reserve 1 loads a 163; 0 is refused", reserve),
+    ("T1: the window at E000 begins with page 25; after E000 = 3F so does the one at 8000", last_bank),
+    ("T2: after 8000 = E1 CHR entry 0 is CIRAM page 51", ciram),
+    ("T3: after E800 = 40 and 8000 = E1 it is CHR page 34", ciram_selected_off),
+    ("T4: after 8000 = DF it is page 40", chr),
+    ("T5: from counter FFFE the line is pending after one clock", pends),
+    ("T6: from counter 8000 it is clear after 32,766 clocks, and pending after one more", longest),
+    ("T7: neither counter 7FFE nor FFFF moves", still),
+    ("T8: length byte FC or FF is length 4; 00 or 03 is 256", lengths),
+    ("T9: at volume 15 nibbles 0, 7, 8, F have levels 3720, 3825, 0, 105", levels),
+    ("T10: of outputs 1, 0, 0 of three channels `out` has bits 3EAAAAAB", thirds),
+    ("T11: 14 clocks after a load make no update, 15 make one", first_update),
+    ("T12: a reserve of 1 loads as mapper 19; of 0 it is refused by N6", reserve),
 ];
 
 fn last_bank(t: &mut Checks) {
@@ -78,7 +79,7 @@ fn lengths(t: &mut Checks) {
             let mut p = loaded(P);
             lend(&mut p, 7, Voice { length_byte: byte, frequency, phase: sum - frequency, ..Voice::default() });
             p.clocks(15);
-            t.eq(&format!("wave byte {byte:02X}, sum {sum:X}"), p.chip.audio.raw_phase_ext()[7], reduced);
+            t.eq(&format!("length byte {byte:02X}, sum {sum:X}"), p.chip.audio.raw_phase_ext()[7], reduced);
         }
     }
 }

@@ -1,4 +1,5 @@
-//! Lends one sound channel's registers, in the terms of 01's 'Sound'.
+// SPDX-License-Identifier: MIT OR Apache-2.0
+//! Lends one sound channel's registers (S3).
 
 use oracle::session::Session;
 

@@ -1,3 +1,4 @@
+// SPDX-License-Identifier: MIT OR Apache-2.0
 //! Stands in for `rand`. Random power-on RAM is left out of the port, so nothing here is ever run.
 
 pub trait Rng {

@@ -1,3 +1,4 @@
+// SPDX-License-Identifier: MIT OR Apache-2.0
 //! Stands in for `serde`: the traits that the two sources name. Save states are left out of the port, so none of it is ever run.
 
 pub use de::{Deserialize, Deserializer};

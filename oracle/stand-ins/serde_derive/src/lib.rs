@@ -1,3 +1,4 @@
+// SPDX-License-Identifier: MIT OR Apache-2.0
 //! Stands in for serde's derive macros. The impls it writes are never run.
 //!
 //! A derive expands inside the module of its type, so it sees private fields. `Serialize` therefore also writes the accessors of the

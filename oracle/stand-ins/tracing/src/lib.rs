@@ -1,3 +1,4 @@
+// SPDX-License-Identifier: MIT OR Apache-2.0
 //! Stands in for `tracing`: messages are type-checked and dropped.
 
 #[macro_export]

@@ -1,4 +1,5 @@
-//! The reading notes on 01, 'Clock, reset, battery'.
+// SPDX-License-Identifier: MIT OR Apache-2.0
+//! Results at the edges of the clauses C, on the Rust.
 
 use crate::selftest::{
     bench::{D, Handy, N175, N340, P, U, loaded, number, pages, refusal, written},
@@ -36,7 +37,7 @@ const RISES: &[Rise] = &[
     (0x0000, false, 65_536, (0, 0x0000, false)),
 ];
 
-/// "A rise is the counter reaching FFFF, not the line going from clear to pending", "on every board".
+/// C1, C5: a clock that makes the counter FFFF is a rise, whatever the line was; each board does the same.
 fn rises(t: &mut Checks) {
     for (counter, pending, clocks, expected) in RISES {
         for load in [P, U, N175, N340] {
@@ -52,7 +53,7 @@ fn rises(t: &mut Checks) {
     t.eq("340 with 8134", cart.clocks(40_000), Ran { made: 0, rise: 32_459 });
 }
 
-/// "Counter writes clear the line".
+/// C3: a write to either half clears the line; and what the counter does from there.
 fn counter_writes(t: &mut Checks) {
     let pending = || {
         let mut p = loaded(P);
@@ -73,7 +74,7 @@ fn counter_writes(t: &mut Checks) {
     t.eq("stopped", (p.clocks(65_536).rise, p.chip.regs.irq_counter), (0, 0x7FFF));
 }
 
-/// "from every state in range with counter 8000+n .. clock 7FFF−n is a rise": cut runs and other calls change nothing of it.
+/// D3.2: cut runs and other calls do not move the rise.
 fn counter_sentence(t: &mut Checks) {
     for n in [0, 1, 0x134, 0x7FF0, 0x7FFE] {
         for load in [P, D, U, N175, N340] {
@@ -83,12 +84,13 @@ fn counter_sentence(t: &mut Checks) {
             let mut first = cart.clocks(before / 2).rise;
             cart.puts(&[(0x6000, 1), (0xE000, 0x80), (0xC800, 0xE0), (0x8000, 0xE1), (0xF800, 0xFF), (0x4800, 1)]);
             first += cart.clocks(before - before / 2).rise;
-            t.eq("no rise and a clear line", (first, cart.chip.regs.irq_pending), (0, false));
+            t.eq("until then none, and the line clear", (first, cart.chip.regs.irq_pending), (0, false));
             t.eq("then the rise", (cart.clocks(1).rise, cart.chip.regs.irq_pending), (1, true));
         }
     }
 }
 
+/// C4, C6: no clock, and the number of samples.
 fn runs(t: &mut Checks) {
     let mut p = loaded(P);
     p.set_counter(0x8000, false);
@@ -113,7 +115,7 @@ fn with_update_counter(update_counter: u8) -> Session {
     p
 }
 
-/// "65,536 clocks: u=0 → 4369; u=14 → 4370, and room for 4369 → 11"; "places from `made` on stay as lent".
+/// N11: room for the samples and for one less; C4: places behind the samples keep what they held.
 fn rooms(t: &mut Checks) {
     for (u, room, made) in [(0, 4369, Ok(4369)), (14, 4370, Ok(4370)), (14, 4369, Err(11)), (0, 4368, Err(11))] {
         let mut p = with_update_counter(u);
@@ -142,6 +144,7 @@ fn busy() -> Session {
     d
 }
 
+/// C7, C8: what each kind of reset sets, and that the rest stays.
 fn resets(t: &mut Checks) {
     for kind in [0, 1] {
         let before = busy();
@@ -166,7 +169,7 @@ fn resets(t: &mut Checks) {
     }
 }
 
-/// "175 with protect 1, hard reset → still 41w..48w, 6001=44 is stored; then 8000=00 → 41..48."
+/// C8: protect is 0 after a hard reset, but a 175's window has the flag until a write makes the tables anew.
 fn stale_flag_after_reset(t: &mut Checks) {
     let mut cart = written(N175, &[(0xC000, 1)]);
     t.eq("hard reset", refusal(cart.reset(1)), 0);
@@ -177,7 +180,7 @@ fn stale_flag_after_reset(t: &mut Checks) {
     t.eq("remapped", cart.prg(24..32), pages("41..48"));
 }
 
-/// "Sync copies the 128 sound bytes to the reserve's start (P: 50176..50303)"; "Refusal 12 goes by the used length".
+/// C9, on a 163 and on a 340 that was one at load; N12 is about the used bytes and not about the board.
 fn battery(t: &mut Checks) {
     for writes in [&[] as &[(u16, u8)], &[(0xE000, 0x80)]] {
         let mut cart = written(D, writes);

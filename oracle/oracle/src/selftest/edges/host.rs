@@ -1,4 +1,5 @@
-//! The reading notes on 01, 'Host and image' and the host's rows of 'Refused calls'. The image has tests of its own.
+// SPDX-License-Identifier: MIT OR Apache-2.0
+//! Results at the edges of the clauses H, on the Rust, and N20's rows of a C host. The image has tests of its own.
 
 use crate::selftest::{
     bench::{D, Handy, N175, P, loaded},
@@ -18,6 +19,7 @@ pub fn check(t: &mut Checks) {
     loads(t);
 }
 
+/// H6: the words of writes, of a run and of reads.
 fn words(t: &mut Checks) {
     t.eq("P: 8000=E1", write_word(loaded(P).put(0x8000, 0xE1)), 0x100);
     t.eq("P: E000=3F", write_word(loaded(P).put(0xE000, 0x3F)), 0xFF_0000_0000);
@@ -31,7 +33,7 @@ fn words(t: &mut Checks) {
     t.eq("a read's word", [0x5000, 0x5800].map(|addr| host.call(HostCall::Read(addr))), [0x5A00, 0xA500]);
 }
 
-/// "floor(bytes / 4) places; sample i in bytes 4i..4i+3, most significant first; bytes from 4·made on stay".
+/// H7, N11: a sample's bytes, and what is lent behind it or is too short for it.
 fn samples(t: &mut Checks) {
     for (lent, word, left) in [
         (3, 11, vec![0xEE; 3]),
@@ -48,7 +50,7 @@ fn samples(t: &mut Checks) {
     }
 }
 
-/// "host read; write: 1 2 7 8", "host run: 1 2 10 11", "host reset: 1 2 3": everything wrong, then one thing after another mended.
+/// N20, a host's read, write, run and reset: everything wrong, then one thing after another mended.
 fn refusals(t: &mut Checks) {
     let fit = image::encode(&loaded(P));
     let mut bad = fit;
@@ -75,7 +77,7 @@ fn refusals(t: &mut Checks) {
     }
 }
 
-/// "host load: 1 4 5 6 7"; "A host load does not read the lent image: any 307 bytes will do."
+/// N20, a host's load; H4: whatever bytes the image has, if it has 307.
 fn loads(t: &mut Checks) {
     let wrong = Load { mapper: 20, ..P };
     for (len, load, answer) in [(308, wrong, 1), (LEN, wrong, 4), (LEN, Load { battery: 0, ..P }, 6), (LEN, P, 7)] {

@@ -1,4 +1,5 @@
-//! The reading notes on 01, 'Load, detection and banking', but for the table of `write_register`.
+// SPDX-License-Identifier: MIT OR Apache-2.0
+//! Results at the edges of the clauses L, on the Rust; the table of L11 has a file of its own.
 
 use crate::selftest::{
     bench::{D, Handy, N175, N340, NO_CHR, NO_PRG, P, U, changed, loaded, pages, refusal, written},
@@ -32,7 +33,7 @@ pub fn check(t: &mut Checks) {
     write_answer(t);
 }
 
-/// "registers, banks and flags 0; `Audio::new`".
+/// L1, S12: the fields after a load; a submapper is kept on mapper 19, too.
 fn fresh_chip(t: &mut Checks) {
     let chip = loaded(P).chip;
     t.eq("counter, protect", (chip.regs.irq_counter, chip.regs.prg_ram_protect), (0, 0));
@@ -47,7 +48,7 @@ fn fresh_chip(t: &mut Checks) {
     t.eq("submapper of a 19", loaded(Load { submapper: 255, ..P }).chip.submapper_num, 255);
 }
 
-/// "flags bit 3 set → FourScreen, bit 0 is then ignored; else bit 0 set → Vertical, clear → Horizontal".
+/// L2: with bit 3 the others do not count. A 163 has the mirroring in its field and does not show it (L13).
 fn flags(t: &mut Checks) {
     use Mirroring::{FourScreen, Horizontal, Vertical};
     for (flags, mirroring) in
@@ -60,7 +61,7 @@ fn flags(t: &mut Checks) {
     t.eq("a 163 does not use it", loaded(Load { flags: 1, ..P }).chr(8..16), pages("33*8"));
 }
 
-/// "Start": board, detecting, used length.
+/// L3, L4, L5: the board, whether it detects, and how much of the reserve is used.
 fn starts(t: &mut Checks) {
     use Board::{Namco163, Namco175, Namco340, Unknown};
     for (mapper, submapper, in_database, start) in [
@@ -85,6 +86,7 @@ fn starts(t: &mut Checks) {
     t.eq("no later call changes the used length", *written(U, &[(0x4800, 0)]).memory.raw_battery_ext_len(), 0);
 }
 
+/// L1, L13: the tables after a load.
 fn fresh_tables(t: &mut Checks) {
     let p = loaded(P);
     t.eq("P, PRG", p.prg(0..64), pages("0*24,41w..48w,1..8,1..8,1..8,25..32"));
@@ -95,7 +97,7 @@ fn fresh_tables(t: &mut Checks) {
     t.eq("175, PRG 24..31", loaded(N175).prg(24..32), pages("41..48"));
 }
 
-/// "The store comes first, by the entries before the write, at every address from 4800 on".
+/// L7: by the table before the write, whatever the address; the register step follows.
 fn store_comes_first(t: &mut Checks) {
     let mut p = loaded(P);
     p.lend_prg(56, "41w..48w");
@@ -119,7 +121,7 @@ fn store_comes_first(t: &mut Checks) {
     t.eq("PRG-RAM lent at 4800", (p.memory.raw_data()[41 * 1024], p.chip.audio.ram[0]), (0x5A, 0x5A));
 }
 
-/// "a CPU read is `prg_read`, else `Memory::prg_peek`", "on every board and whatever the entries say".
+/// L8, S10: the same on all boards, and with memory shown at 4800..5FFF as well.
 fn reads(t: &mut Checks) {
     for load in [P, D, U, N175, N340] {
         let mut cart = loaded(load);
@@ -146,7 +148,7 @@ fn reads(t: &mut Checks) {
     }
 }
 
-/// "The select bits act when a slot is written, not later."
+/// L12: a select counts in the write of a slot; setting it later moves no entry.
 fn selects(t: &mut Checks) {
     let mut p = written(P, &[(0x8000, 0xE1), (0xE800, 0x40)]);
     t.eq("CHR 0 stays", p.chr(0..1), pages("51w"));
@@ -154,7 +156,7 @@ fn selects(t: &mut Checks) {
     t.eq("CHR 0 written again", p.chr(0..1), pages("34"));
 }
 
-/// "`update_banks` gives entries by chip and layout alone and keeps PRG 0..23".
+/// L13: what the tables held before does not count, but for PRG 0..23, which stay.
 fn entries_by_registers(t: &mut Checks) {
     let mut p = loaded(P);
     p.lend_prg(0, "1..51,0*13");
@@ -173,7 +175,7 @@ fn entries_by_registers(t: &mut Checks) {
     t.eq("CHR of a 340", p.chr(0..16), pages("33,34,35,51w,37,38,39,34,50w,50w,51w,51w,50w,50w,51w,51w"));
 }
 
-/// "bank 5 on 1, 2, 3, 4 pages → 0, 1, 2, 1".
+/// M1, L13: a lent bank under a CIRAM flag, by the number of CIRAM pages.
 fn ciram_banks(t: &mut Checks) {
     for (ciram, entry) in [(1, "50w"), (2, "51w"), (3, "52w"), (4, "51w")] {
         let mut cart = loaded(Load { ciram: ciram * 1024, ..P });
@@ -183,7 +185,7 @@ fn ciram_banks(t: &mut Checks) {
     }
 }
 
-/// "'Always' is also where the register kept its value."
+/// L14: a write of the bank that is there already shows what a reset left to be mapped (C8); L11 names the writes that map nothing.
 fn always_remaps(t: &mut Checks) {
     let mut p = written(P, &[(0xC000, 0x05)]);
     t.eq("CHR 8", p.chr(8..9), pages("38"));
@@ -204,7 +206,7 @@ fn always_remaps(t: &mut Checks) {
     t.eq("and still remaps", fixed.prg(32..40), pages("1..8"));
 }
 
-/// D as a 340, a 175 and a 163 again: "CHR 0 = 51w and 7 = 50w stay CIRAM".
+/// L11: D as a 340, a 175 and a 163 again. Slots 0..7 that show CIRAM go on showing it until they are written (T13).
 fn from_163_to_210(t: &mut Checks) {
     let mut d = written(D, &[(0x8000, 0xE1), (0xB800, 0xE0), (0xC000, 0xE1), (0xC800, 0x05)]);
     let answer = d.put(0xE000, 0x80);
@@ -223,12 +225,12 @@ fn from_163_to_210(t: &mut Checks) {
     t.eq("mask", answer.chr, changed(0xDD00, 6, 8));
 
     let d = written(D, &[(0xE000, 0x40)]);
-    t.eq("163 to 175 takes two writes", (d.chip.board, d.chip.audio.disabled), (Board::Namco163, true));
+    t.eq("one write makes no 175 of a 163", (d.chip.board, d.chip.audio.disabled), (Board::Namco163, true));
     let p = written(P, &[(0xE000, 0xC0)]);
     t.eq("P: E000=C0", (p.chip.board, p.chip.audio.disabled, p.chip.prg_banks[0]), (Board::Namco163, true, 0));
 }
 
-/// "A detecting 163 whose written flag is set becomes a 340 on E000 bit 7 and is settled at once."
+/// L6: a written board that becomes a 340 stays one. L11: it takes sound data and the counter, and nothing at C000..DFFF and F800..FFFF.
 fn settled(t: &mut Checks) {
     let mut d = written(D, &[(0x6000, 1), (0xE000, 0x80)]);
     t.eq("340", d.chip.board, Board::Namco340);
@@ -236,11 +238,11 @@ fn settled(t: &mut Checks) {
     t.eq("sound byte and counter", (d.chip.audio.ram[0], d.chip.regs.irq_counter), (0x11, 0x3322));
     let chip = format!("{:?}", d.chip);
     d.puts(&[(0xC000, 0xE1), (0xC800, 0xE1), (0xDFFF, 0xE1), (0xF800, 0xFF)]);
-    t.eq("C000..DFFF and F800 store nothing", format!("{:?}", d.chip), chip);
+    t.eq("writes to C000..DFFF and F800", format!("{:?}", d.chip), chip);
     t.eq("still a 340", d.chip.board, Board::Namco340);
 }
 
-/// "Reset clears the written flag and opens detection again."
+/// C7, L6: the written flag is clear after a reset, so a detecting 340 can be another board again.
 fn reset_opens_detection(t: &mut Checks) {
     for kind in [0, 1] {
         let mut u = written(U, &[(0xE000, 0x80), (0x6000, 0x01), (0xC000, 0x01)]);
@@ -251,7 +253,7 @@ fn reset_opens_detection(t: &mut Checks) {
     }
 }
 
-/// One write to a fresh U each.
+/// L11: one write to a fresh U each.
 fn unknown(t: &mut Checks) {
     let u = written(U, &[(0x8000, 0xE1)]);
     t.eq("8000=E1", (u.chip.board, u.chr(0..1)), (Board::Unknown, pages("34")));
@@ -271,7 +273,7 @@ fn unknown(t: &mut Checks) {
     t.eq("F800=81", chip.regs.prg_ram_protect, 0x81);
 }
 
-/// "6000=55 on Unknown or 340: written, nothing stored. On a 175: stored iff the entry has the flag."
+/// L11, M9: the written flag is set on each board, the byte stored where the window has the flag (L13).
 fn stores_by_board(t: &mut Checks) {
     for (what, cart, stored) in [
         ("163", loaded(P), true),
@@ -288,6 +290,7 @@ fn stores_by_board(t: &mut Checks) {
     }
 }
 
+/// L11: a 175 that does not detect; and the protect byte of a 163 as it becomes a 340 and then a 175.
 fn fixed_175(t: &mut Checks) {
     let mut cart = loaded(N175);
     cart.put(0xDFFF, 0xFE);
@@ -306,7 +309,7 @@ fn sound_fields(chip: &Namco163) -> (usize, bool, bool, u8) {
     (chip.audio.addr, chip.audio.auto_increment, chip.audio.disabled, chip.audio.update_counter)
 }
 
-/// "A 163 that became a 340 keeps sound address, auto, disabled, update counter; it makes no sound clock".
+/// C2: a 340 has no sound clock; the sound's fields stay as they were on the 163, for when it is one again.
 fn sound_is_kept(t: &mut Checks) {
     let mut d = written(D, &[(0xF800, 0x85)]);
     d.clocks(9);
@@ -319,7 +322,7 @@ fn sound_is_kept(t: &mut Checks) {
     t.eq("disabled is kept", (d.chip.board, d.chip.audio.disabled), (Board::Namco340, true));
 }
 
-/// "Bit k iff entry k after the whole call differs": "the flag alone" counts.
+/// L15, R6: a change of the flag shows in the mask; bits 0..23 of the PRG mask are 0 from any state.
 fn write_answer(t: &mut Checks) {
     let mut cart = loaded(N175);
     let answer = cart.put(0xC000, 0x01);

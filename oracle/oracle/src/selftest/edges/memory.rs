@@ -1,4 +1,5 @@
-//! The reading notes on 01, 'Memory'.
+// SPDX-License-Identifier: MIT OR Apache-2.0
+//! Results at the edges of the clauses M, on the Rust.
 
 use crate::selftest::{
     bench::{D, Handy, N175, N340, P, U, loaded, number, pages, refusal, written},
@@ -21,7 +22,7 @@ pub fn check(t: &mut Checks) {
     sram(t);
 }
 
-/// "With the three PRG registers at 1, 2, 3F": pages of PRG-ROM, then the windows at 8000, A000, C000, E000.
+/// M1, M2, L13: pages of PRG-ROM, then the windows at 8000, A000 and C000 at banks 1, 2 and 3F, and the one at E000.
 const PRG_WINDOWS: &[(&[u64], [&str; 4])] = &[
     (&[0], ["0*8"; 4]),
     (&[1], ["1*8"; 4]),
@@ -45,7 +46,7 @@ fn prg_windows(t: &mut Checks) {
     }
 }
 
-/// "PRG-RAM at 6000 is always bank 0".
+/// M1, L13: the window at 6000, by pages of PRG-RAM.
 fn prg_ram_window(t: &mut Checks) {
     let repeated = "41w,42w,43w,41w,42w,43w,41w,42w";
     let rows = [(1, "41w*8"), (2, "41w,42w,41w,42w,41w,42w,41w,42w"), (3, repeated)];
@@ -55,14 +56,14 @@ fn prg_ram_window(t: &mut Checks) {
     }
 }
 
-/// "An empty region gives unmapped": "without the flag, also of a region that is writable".
+/// M2: CHR of no byte, ROM and RAM.
 fn empty_regions(t: &mut Checks) {
     for chr_ram in [0, 1] {
         t.eq("CHR of 0 pages", loaded(Load { chr: 0, chr_ram, ..P }).chr(0..16), pages("0*16"));
     }
 }
 
-/// "Writable", and `set_prg_writable` on an unmapped entry.
+/// M4, and M5 where nothing is mapped.
 fn writable(t: &mut Checks) {
     t.eq("CHR-RAM", loaded(Load { chr_ram: 1, ..P }).chr(0..16), pages("42w*16"));
     t.eq("CHR-ROM", loaded(P).chr(0..16), pages("33*16"));
@@ -77,7 +78,7 @@ fn writable(t: &mut Checks) {
     }
 }
 
-/// "`set_mirroring`" on a 175, by CIRAM pages; the first CIRAM page is 49.
+/// M7 on a 175, by CIRAM pages; the first CIRAM page is 49.
 const MIRRORINGS: &[(Mirroring, u64, &str)] = &[
     (Mirroring::Vertical, 2, "49w,50w,49w,50w"),
     (Mirroring::Horizontal, 2, "49w,49w,50w,50w"),
@@ -101,7 +102,7 @@ fn mirrorings(t: &mut Checks) {
     }
 }
 
-/// "CHR addresses fold modulo 4000".
+/// M8: a PPU address counts by its remainder by 4000.
 fn chr_folds(t: &mut Checks) {
     let mut cart = loaded(Load { flags: 1, ..N175 });
     t.eq("CHR write", refusal(cart.chr_write(0x2005, 0x77)), 0);
@@ -110,7 +111,7 @@ fn chr_folds(t: &mut Checks) {
     }
 }
 
-/// "A write through a page stores iff its entry has the flag .. whatever region that is".
+/// M9: a store asks for the flag and for nothing else.
 fn stores(t: &mut Checks) {
     let mut rom = loaded(P);
     rom.put(0x8000, 0x55);
@@ -127,7 +128,7 @@ fn stores(t: &mut Checks) {
     t.eq("CHR-ROM", number(chr.region_peek(Region::Chr, 3)), Ok(0));
 }
 
-/// "Fill copies bytes to a region's start": "no flag is looked at".
+/// M10, N9, and M11 in a region of no bytes.
 fn fills(t: &mut Checks) {
     let mut cart = loaded(Load { prg_rom: 1024, prg_ram: 0, ..P });
     t.eq("whole region", refusal(cart.fill(Region::PrgRom, &[9; 1024])), 0);
@@ -138,14 +139,14 @@ fn fills(t: &mut Checks) {
     for region in Region::ALL {
         t.eq("no byte", refusal(cart.fill(region, &[])), 0);
     }
-    t.eq("one byte into an empty region", refusal(cart.fill(Region::PrgRam, &[1])), 9);
+    t.eq("a byte into an empty region", refusal(cart.fill(Region::PrgRam, &[1])), 9);
     t.eq("an empty region reads 0", number(cart.region_peek(Region::PrgRam, 5)), Ok(0));
     let before = cart.whole();
     t.eq("an empty region's write", refusal(cart.region_write(Region::PrgRam, 5, 1)), 0);
     t.eq("an empty region stores nothing", cart.whole(), before);
 }
 
-/// "Byte start + (offset mod length), for any 64-bit offset", "also in ROM".
+/// M11: offsets up to the last of 64 bits, in ROM and RAM.
 fn region_offsets(t: &mut Checks) {
     let mut cart = loaded(Load { prg_rom: 1024, ..P });
     t.eq("write at 5123", refusal(cart.region_write(Region::PrgRom, 5123, 0x31)), 0);
@@ -160,7 +161,7 @@ fn region_offsets(t: &mut Checks) {
     t.eq("peek at 1023", number(cart.region_peek(Region::PrgRam, 1023)), Ok(0x34));
 }
 
-/// "The battery region is as long as its used length".
+/// M12, L5: 128 bytes; none on a board that was no 163 at load, also once it is one.
 fn battery_region(t: &mut Checks) {
     let mut p = loaded(P);
     t.eq("fill of 128", refusal(p.fill(Region::Battery, &[5; 128])), 0);
@@ -176,7 +177,7 @@ fn battery_region(t: &mut Checks) {
     }
 }
 
-/// "`sram`": start and length.
+/// M13: start and length.
 fn sram(t: &mut Checks) {
     let only_rom = Load { prg_rom: 1024, prg_ram: 0, chr: 0, ..N175 };
     let rows = [
@@ -185,7 +186,7 @@ fn sram(t: &mut Checks) {
         ("U", loaded(U), (41_984, 8_192)),
         ("U as a 163", written(U, &[(0x4800, 0)]), (41_984, 8_192)),
         ("D as a 340", written(D, &[(0xE000, 0x80)]), (41_984, 8_320)),
-        ("210 with one page of PRG-ROM", loaded(only_rom), (2_048, 0)),
+        ("175 with a page of PRG-ROM", loaded(only_rom), (2_048, 0)),
     ];
     for (what, cart, answer) in rows {
         t.eq(what, number(cart.sram()), Ok(answer));

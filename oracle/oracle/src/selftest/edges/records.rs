@@ -1,4 +1,5 @@
-//! The reading notes on 01, 'Records'.
+// SPDX-License-Identifier: MIT OR Apache-2.0
+//! Results at the edges of the clauses R, on the Rust.
 
 use crate::selftest::{
     bench::{D, Handy, N175, P, U, loaded, number, refusal, try_load, written},
@@ -21,7 +22,7 @@ pub fn check(t: &mut Checks) {
     not_asked(t);
 }
 
-/// "Limits are tested on the bytes, before rounding".
+/// R1, N5: limits go by bytes, also where the pages would be as many.
 fn limits_on_bytes(t: &mut Checks) {
     for (size, answer) in [(524_288, 0), (524_289, 5)] {
         t.eq("PRG-ROM", refusal(try_load(Load { prg_rom: size, ..P })), answer);
@@ -41,7 +42,7 @@ fn limits_on_bytes(t: &mut Checks) {
     }
 }
 
-/// "PRG-ROM of 1000 bytes → region of 1024".
+/// R2: a region of 1,000 bytes has 1,024.
 fn rounding(t: &mut Checks) {
     let mut cart = loaded(Load { prg_rom: 1000, ..P });
     t.eq("pages", cart.layout().prg_rom, 1);
@@ -52,14 +53,14 @@ fn rounding(t: &mut Checks) {
     t.eq("offset 1000", number(cart.region_peek(Region::PrgRom, 1000)), Ok(7));
 }
 
-/// "pages = 2 for 0 bytes, else ceil".
+/// R1, R2: CIRAM of 0 bytes has two pages; else a started page counts as one.
 fn ciram_pages(t: &mut Checks) {
     for (bytes, pages) in [(0, 2), (1, 1), (1024, 1), (1025, 2), (2048, 2), (2049, 3), (3072, 3), (3073, 4), (4096, 4)] {
         t.eq(&format!("CIRAM of {bytes}"), loaded(Load { ciram: bytes, ..P }).layout().ciram, pages);
     }
 }
 
-/// "The flag .. is kept as given, also for 0 pages of CHR".
+/// R1: the CHR-RAM flag is kept where CHR is empty; H5: every number but 0 sets it.
 fn chr_flag_is_kept(t: &mut Checks) {
     for (chr_ram, kept) in [(0, false), (1, true), (256, true), (1 << 32, true)] {
         let layout = loaded(Load { chr: 0, chr_ram, ..P }).layout();
@@ -74,6 +75,7 @@ fn ranges(session: &Session) -> [std::ops::Range<usize>; 5] {
         .map(|range| range.start / 1024..range.end / 1024)
 }
 
+/// R4, R5: the parts in their order, the lengths, and zeros after a load.
 fn arena_order(t: &mut Checks) {
     let p = loaded(P);
     t.eq("P", ranges(&p), [1..33, 33..41, 41..49, 49..50, 50..52]);
@@ -95,7 +97,7 @@ fn arena_order(t: &mut Checks) {
     }
 }
 
-/// "The zero page is ordinary memory."
+/// R7: what is stored in the zero page shows in each unmapped page; M5 lets a 163 without PRG-RAM store there.
 fn zero_page(t: &mut Checks) {
     let mut bare = written(Load { prg_ram: 0, chr: 0, ..P }, &[(0x6000, 0xAA), (0x67FF, 0xBB)]);
     for (addr, byte) in [(0x6000, 0xAA), (0x6400, 0xAA), (0x7C00, 0xAA), (0x63FF, 0xBB)] {
@@ -111,7 +113,7 @@ fn zero_page(t: &mut Checks) {
 
 type Lending = fn(&mut Session);
 
-/// Changes to a fresh P, and whether the state is in range afterwards.
+/// R9: changes to a fresh P, and whether the state is in range afterwards.
 const FIELDS: &[(&str, bool, Lending)] = &[
     ("mapper 210", true, |s| s.chip.mapper_num = 210),
     ("mapper 0", false, |s| s.chip.mapper_num = 0),
@@ -177,7 +179,7 @@ fn set_layout(session: &mut Session, change: fn(&mut Layout)) {
     *session.memory.raw_data_mut() = vec![0; layout.arena_len() as usize].into();
 }
 
-/// "In range means", field by field; "a negative one is out, if the type has them".
+/// R9, field by field. The Rust's channel has a sign, so a channel of -1 is tested, too.
 fn in_range_fields(t: &mut Checks) {
     for (what, in_range, lend) in FIELDS {
         let mut session = loaded(P);
@@ -186,16 +188,16 @@ fn in_range_fields(t: &mut Checks) {
     }
 }
 
-/// "What in range does not ask."
+/// R10: changes to a fresh P that leave it in range.
 const NOT_ASKED: &[(&str, Lending)] = &[
-    ("entries that disagree with the registers", |s| s.chip.chr_banks[0] = 3),
+    ("entries that the registers would not give", |s| s.chip.chr_banks[0] = 3),
     ("ROM with the flag", |s| s.lend_prg(32, "1w..8w")),
     ("zero page with the flag", |s| s.lend_prg(24, "0w*8")),
     ("reserve with the flag", |s| s.lend_prg(24, "49w*8")),
     ("PRG 0..23 mapped", |s| s.lend_prg(0, "1..24")),
     ("a 163 of mapper 210", |s| s.chip.mapper_num = 210),
-    ("an Unknown that is not detecting", |s| s.chip.board = Board::Unknown),
-    ("a used length on a 175", |s| s.chip.board = Board::Namco175),
+    ("an Unknown that does not detect", |s| s.chip.board = Board::Unknown),
+    ("a 175 with used battery bytes", |s| s.chip.board = Board::Namco175),
     ("pending with another counter", |s| s.set_counter(0x1234, true)),
     ("a CIRAM flag with bank 255", |s| (s.chip.nt_bank_enable[3], s.chip.chr_banks[3]) = (true, 255)),
     ("a channel outside 7-c..7", |s| s.chip.audio.current_channel = 2),

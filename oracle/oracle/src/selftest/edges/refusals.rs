@@ -1,4 +1,5 @@
-//! The reading notes on 01, 'Refused calls': every call with everything wrong, then with one thing after another mended.
+// SPDX-License-Identifier: MIT OR Apache-2.0
+//! Results at the edges of the clauses N, on the Rust: every call with everything wrong, then with one thing after another mended.
 
 use crate::selftest::{
     bench::{D, Handy, N175, P, U, loaded, refusal, try_load},
@@ -22,12 +23,12 @@ fn load_into(load: Load, arena_len: u64) -> u8 {
     refusal(Session::load(&load, arena_len))
 }
 
-/// "4, 5, 6, 7 in a load".
+/// N4 to N7, in their order; N6 is about mapper 19 and no byte at all.
 fn loads(t: &mut Checks) {
-    t.eq("mapper 20 with all else wrong", load_into(Load { mapper: 20, prg_rom: 524_289, battery: 0, ..P }, 1), 4);
+    t.eq("mapper 20 with wrong sizes and arena", load_into(Load { mapper: 20, prg_rom: 524_289, battery: 0, ..P }, 1), 4);
     t.eq("19 with PRG-ROM 524,289 and reserve 0", load_into(Load { prg_rom: 524_289, battery: 0, ..P }, 1), 5);
     t.eq("reserve 1025", load_into(Load { battery: 1025, ..P }, 1), 5);
-    t.eq("19 with reserve 0 and a wrong arena", load_into(Load { battery: 0, ..P }, 1), 6);
+    t.eq("19 without reserve, in a wrong arena", load_into(Load { battery: 0, ..P }, 1), 6);
     t.eq("a wrong arena", load_into(P, 1), 7);
     for battery in [1, 127, 128, 1024] {
         t.eq("19 with a reserve", refusal(try_load(Load { battery, ..P })), 0);
@@ -41,7 +42,7 @@ fn loads(t: &mut Checks) {
     }
 }
 
-/// "1 and 7 are ≠ (longer is refused too)".
+/// N1, N7: one byte less and one byte more.
 fn arena_lengths(t: &mut Checks) {
     for (len, answer) in [(53_247, 7), (53_248, 0), (53_249, 7), (0, 7), (u64::MAX, 7)] {
         t.eq(&format!("load into {len} bytes"), load_into(P, len), answer);
@@ -60,7 +61,7 @@ fn arena_lengths(t: &mut Checks) {
 
 type Call = fn(&mut Session) -> u8;
 
-/// Each call with arguments that are as wrong as they can be, and its refusals in checking order.
+/// N20: each call on a state, with arguments as wrong as they can be (some once more with fit ones), and its refusals in checking order.
 const CALLS: &[(&str, Call, &[u8])] = &[
     ("read", |s| refusal(s.read(0x47FF)), &[2, 7, 8]),
     ("read of a register", |s| refusal(s.read(0x4800)), &[2, 7]),
@@ -90,7 +91,7 @@ fn expect(t: &mut Checks, what: &str, session: &Session, call: Call, refused_by:
     }
 }
 
-/// "1 before 2", "2 before 7", "7 before 8, 9 and 12", "2 before 3", "10 before 11".
+/// N0: of several conditions that hold, the first number is the answer.
 fn orders(t: &mut Checks) {
     // A used length of 0 lets 12 hold; a 163, not disabled, lets 11 hold.
     let mut plain = loaded(P);
@@ -107,7 +108,7 @@ fn orders(t: &mut Checks) {
     }
 }
 
-/// "2 is the whole state, in each call that takes one"; "an entry beyond the layout is 2 even if the lent arena is long enough".
+/// N2: any field, in every call on a state. R9: an entry behind the layout's last page, also where such a page is lent.
 fn whole_state(t: &mut Checks) {
     let mut float = loaded(P);
     float.chip.audio.channel_out[0] = 0.5;
@@ -123,7 +124,7 @@ fn whole_state(t: &mut Checks) {
     }
 }
 
-/// "5, 9, 10 are >; 8 and 11 are <", and 12 is used = 0; a refused call alters nothing.
+/// N3 and N8 to N12, on both sides of each condition; N0: a refused call alters nothing.
 fn edges_of_conditions(t: &mut Checks) {
     let p = loaded(P);
     let n175 = loaded(N175);
@@ -152,7 +153,7 @@ fn edges_of_conditions(t: &mut Checks) {
     }
 }
 
-/// "Types, so that narrowing loses no refusal."
+/// H8: numbers whose low bits alone would pass.
 fn wide_numbers(t: &mut Checks) {
     t.eq("mapper 65,555", refusal(try_load(Load { mapper: 65_555, ..P })), 4);
     t.eq("mapper 2^32 + 19", refusal(try_load(Load { mapper: (1 << 32) + 19, ..P })), 4);

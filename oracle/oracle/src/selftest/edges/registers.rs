@@ -1,4 +1,5 @@
-//! The reading notes' table of `write_register`, a row a range, held against the Rust on every board.
+// SPDX-License-Identifier: MIT OR Apache-2.0
+//! L11: a row for each range, held against the Rust on every board. 8000..BFFF is two rows, by the selects of L12.
 
 use crate::selftest::{
     bench::{Handy, P, loaded},
@@ -76,7 +77,7 @@ fn counter_high(chip: &mut Namco163, _: u16, val: u8) {
     chip.regs.irq_pending = false;
 }
 
-/// "CIRAM iff v ≥ E0 and the board is a 163 and (slots 0..3: low select clear; 4..7: high select clear; 8..11: always)".
+/// L12: when a slot shows CIRAM, and its bank.
 fn slot(chip: &mut Namco163, addr: u16, val: u8) {
     let slot = usize::from((addr - 0x8000) / 0x800);
     let select = match slot {
@@ -123,7 +124,7 @@ fn port(chip: &mut Namco163, _: u16, val: u8) {
     }
 }
 
-/// "board := b iff detecting and (not written or board ≠ 340), by the board and flag of that moment".
+/// L6: detection, which leaves a written 340 alone.
 fn maybe_set_board(chip: &mut Namco163, board: Board) {
     if chip.auto_detect_board && (!chip.prg_ram_written_to || chip.board != Namco340) {
         chip.board = board;

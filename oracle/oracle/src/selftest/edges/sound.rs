@@ -1,4 +1,5 @@
-//! The reading notes on 01, 'Sound'.
+// SPDX-License-Identifier: MIT OR Apache-2.0
+//! Results at the edges of the clauses S, on the Rust.
 
 use crate::selftest::{
     bench::{D, Handy, P, loaded, written},
@@ -22,7 +23,7 @@ pub fn check(t: &mut Checks) {
     port(t);
 }
 
-/// "15 enabled clocks make one update": clocks while disabled leave the counter.
+/// S1, C2: clocks while the sound is off leave the update counter.
 fn updates(t: &mut Checks) {
     let mut p = loaded(P);
     t.eq("run 7", p.clocks(7).made, 0);
@@ -42,7 +43,7 @@ fn turn(session: &mut Session, updates: usize) -> Vec<i8> {
     channels
 }
 
-/// "7 if channel + c < 8, else channel − 1" after the update.
+/// S2: turns with 8, 3, 2 and 1 channels, and with fewer channels from then on.
 fn turns(t: &mut Checks) {
     for (c, channels) in [(7, vec![7, 6, 5, 4, 3, 2, 1, 0, 7]), (2, vec![7, 6, 5, 7]), (1, vec![7, 6, 7, 6]), (0, vec![7, 7, 7])] {
         let mut p = loaded(P);
@@ -57,7 +58,7 @@ fn turns(t: &mut Checks) {
     t.eq("c set to 1", turn(&mut p, 2), vec![3, 7]);
 }
 
-/// "A lent channel 0 with c=0 makes its update (registers at 40), then 7; `out` counts channel 7 alone."
+/// S2, S7: a current channel below 7 - c is updated all the same and gives way to 7; `out` does not count it.
 fn lent_channels(t: &mut Checks) {
     let mut p = loaded(P);
     lend(&mut p, 0, Voice { frequency: 0x1_2345, volume: 15, nibble: 0xF, ..Voice::default() });
@@ -68,6 +69,7 @@ fn lent_channels(t: &mut Checks) {
     t.eq("then 7", (audio.current_channel, audio.out), (7, 17.0));
 }
 
+/// S4: the phase, also where the length gets less.
 fn phases(t: &mut Checks) {
     let mut p = loaded(P);
     lend(&mut p, 7, Voice { frequency: 0x3_FFFF, length_byte: 0xFC, ..Voice::default() });
@@ -82,10 +84,10 @@ fn phases(t: &mut Checks) {
     lend(&mut p, 7, Voice { frequency: 0x3_FFFF, ..Voice::default() });
     p.clocks(60);
     t.eq("length 256, four updates", p.chip.audio.raw_phase_ext()[7], 0xF_FFFC);
-    // "Byte 4 serves both": the shorter length keeps the frequency's two bits.
+    // S3: the byte has two bits of the frequency, too, which stay.
     p.chip.audio.ram[0x7C] |= 0xFC;
     p.clocks(15);
-    t.eq("a phase beyond a shortened length", p.chip.audio.raw_phase_ext()[7], 0x3_FFFB);
+    t.eq("then length 4", p.chip.audio.raw_phase_ext()[7], 0x3_FFFB);
 
     let mut p = loaded(P);
     p.clocks(150);
@@ -105,16 +107,16 @@ fn heard(wave_address: u8, frequency_high: u8, set: &[(usize, u8)]) -> f32 {
     p.chip.audio.channel_out[7]
 }
 
-/// "the sum modulo 256, byte address/2, odd high", "registers are samples too", "nibble at the new phase".
+/// S5: both halves of a byte, the new phase, a sample in a register's byte, and an x that wraps.
 fn nibbles(t: &mut Checks) {
     t.eq("even, low", heard(0x20, 0, &[(0x10, 0xA9)]), 1.0);
     t.eq("odd, high", heard(0x21, 0, &[(0x10, 0xA9)]), 2.0);
     t.eq("at the new phase", heard(0x20, 1, &[(0x10, 0xA9)]), 2.0);
-    t.eq("address FF is the high nibble of 7F", heard(0xFF, 0, &[(0x7F, 0xF1)]), 7.0);
+    t.eq("x = FF: the high half of byte 7F", heard(0xFF, 0, &[(0x7F, 0xF1)]), 7.0);
     t.eq("the sum wraps at 256", heard(0xFF, 1, &[(0x00, 0x0B)]), 3.0);
 }
 
-/// "Level = ((nibble + 248) mod 256) · volume".
+/// S6, for every volume and nibble.
 fn levels(t: &mut Checks) {
     for volume in 0..16u8 {
         for nibble in 0..16u8 {
@@ -127,7 +129,7 @@ fn levels(t: &mut Checks) {
     }
 }
 
-/// "A write to 7F changes `out` only at the next update: output 7 = 3720, c from 0 to 1 → 3720, then 1860."
+/// S7: `out` is made in an update, so a new c shows there and not before.
 fn channel_count_later(t: &mut Checks) {
     let mut p = loaded(P);
     lend(&mut p, 7, Voice { volume: 15, ..Voice::default() });
@@ -140,7 +142,7 @@ fn channel_count_later(t: &mut Checks) {
     t.eq("the update", p.chip.audio.out, 1860.0);
 }
 
-/// `out`, by bits, of channel outputs with channel 7 silent: c, outputs of channels 0..7.
+/// S7: `out`, by bits, of channel outputs with channel 7 silent: c, outputs of channels 0..7.
 fn quotients(t: &mut Checks) {
     for (c, outputs, bits) in [
         (2, [9.0, 9.0, 9.0, 9.0, 9.0, 1.0, 0.0, 0.0], 0x3EAA_AAAB),
@@ -161,7 +163,7 @@ fn quotients(t: &mut Checks) {
     t.eq("the sum's -0 never shows", p.chip.audio.out.to_bits(), 0);
 }
 
-/// "one division by c+1", and "exact" for 1, 2, 4 or 8 channels: the f64 quotient, rounded, is the f32 quotient.
+/// S7: one division, of 2 to 8 channels. The f64 quotient, rounded, is the f32 quotient; with 2, 4 or 8 no bit is lost.
 fn divisions(t: &mut Checks) {
     for c in 1..8u8 {
         let mut came = Vec::new();
@@ -182,7 +184,7 @@ fn divisions(t: &mut Checks) {
     }
 }
 
-/// "one f32 product 38D1B717 · out".
+/// S8: `output` is one product.
 fn outputs(t: &mut Checks) {
     t.eq("0.0001", 0.0001f32.to_bits(), 0x38D1_B717);
     for (out, bits) in
@@ -195,7 +197,7 @@ fn outputs(t: &mut Checks) {
     }
 }
 
-/// "A write to 4800 stores, then moves", "A 340 that was a 163 with auto set moves it on reads too."
+/// S10, S11: writes and reads go on to the next address where auto-increment is set, a 340's reads too.
 fn port(t: &mut Checks) {
     let p = written(P, &[(0xF800, 0xFF), (0x4800, 0x5A)]);
     t.eq("F800=FF, 4800=5A", (p.chip.audio.ram[0x7F], p.chip.audio.addr), (0x5A, 0));
