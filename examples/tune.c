@@ -1,7 +1,9 @@
-/* A small host: loads a cartridge with a Namco 163, plays "Frere Jacques" as a round in three voices over a bass, one step of the tune for every few
- * interrupts of the board, switches banks at each bar, says what happened, and writes the sound to a WAV file.
+/* SPDX-License-Identifier: MIT OR Apache-2.0 */
+/* A small host: loads a cartridge with a Namco 163, plays "Frere Jacques" as a round in three voices over a bass, one step of the tune for
+ * every few interrupts of the board, switches banks at each bar, says what happened, and writes the sound to a WAV file and the page tables
+ * of each bar to a picture.
  *
- *   tune FILE.wav */
+ *   tune FILE.wav FILE.svg */
 #include <stdio.h>
 #include <stdlib.h>
 
@@ -25,6 +27,10 @@ enum { CHANNELS = 4, VOICES = 3, WAVE = 32 };
 /* The tune counts in half beats; eight of them are a bar, and voices enter two bars apart. */
 enum { STEP_FRAMES = 8, BAR = 8, TUNE_STEPS = 64, ENTRY = 16, STEPS = TUNE_STEPS + (VOICES - 1) * ENTRY, LAST_FRAMES = 20 };
 
+/* The picture has a column for the load and one for each bar, and a row for each window: five of 8 KiB from 6000 on for the CPU, twelve of
+ * 1 KiB from 0000 on for the PPU. */
+enum { COLUMNS = 1 + STEPS / BAR, PRG_WINDOWS = 5, CHR_WINDOWS = 12, WINDOWS = PRG_WINDOWS + CHR_WINDOWS, CELL = 46, ROW = 18, LABEL = 84 };
+
 struct note {
     double hz;
     int steps;
@@ -40,6 +46,7 @@ struct host {
     int volume[CHANNELS];
     FILE *wav;
     double level; /* the sound's mean, which is taken away */
+    unsigned shown[COLUMNS][WINDOWS]; /* the arena's page that each window began with */
 };
 
 static void stop(const char *what, const char *why) {
@@ -86,7 +93,8 @@ static void put_header(FILE *f, uint32_t samples) {
     put(f, 2 * samples, 4);
 }
 
-/* Samples are 0 to 0.3825. A WAV file's are around 0, so their mean is followed slowly and taken away; the largest difference is full scale. */
+/* Samples are 0 to 0.3825. A WAV file's are around 0, so their mean is followed slowly and taken away; the largest difference is full
+ * scale. */
 static void put_samples(struct host *h, const uint8_t *bytes, uint32_t samples) {
     for (uint32_t i = 0; i < samples; i++) {
         double x = namco163_sample(bytes + NAMCO163_SAMPLE_SIZE * i);
@@ -104,8 +112,8 @@ static void load(struct host *h) {
     if (h->at.length == 0) stop("load", namco163_refusal_text(NAMCO163_SIZE));
     h->arena = (uint8_t *)malloc(h->at.length);
     if (!h->arena) stop("load", "no memory for the arena");
-    accepted("load", namco163_load(h->image, sizeof h->image, h->arena, h->at.length, MAPPER, 0, 0, 1, PRG_ROM, PRG_RAM, BATTERY, CHR, CHR_IS_ROM,
-                                   CIRAM));
+    accepted("load", namco163_load(h->image, sizeof h->image, h->arena, h->at.length, MAPPER, 0, 0, 1, PRG_ROM, PRG_RAM, BATTERY, CHR,
+                                   CHR_IS_ROM, CIRAM));
     for (int i = 0; i < PRG_ROM; i++) h->arena[h->at.prg_rom + (size_t)i] = (uint8_t)(0xB0 + i / BANK);
     for (int i = 0; i < CHR; i++) h->arena[h->at.chr + (size_t)i] = (uint8_t)(0xC0 + i / (int)NAMCO163_PAGE_SIZE);
     printf("Loaded a Namco 163 (mapper 19): PRG-ROM %d bytes, CHR-ROM %d bytes, an arena of %lu bytes.\n", PRG_ROM, CHR,
@@ -139,6 +147,48 @@ static void switch_banks(struct host *h, unsigned bar) {
     printf("; the PPU sees $%02X at $%04X\n", h->arena[namco163_chr_entry(h->image, (uint16_t)addr).offset], addr);
 }
 
+/* ---- The picture */
+
+/* The CPU or PPU address that a window starts at. */
+static unsigned window_start(unsigned window) {
+    return window < PRG_WINDOWS ? 0x6000 + window * BANK : (window - PRG_WINDOWS) * NAMCO163_PAGE_SIZE;
+}
+
+/* Notes the page that each window begins with. */
+static void note_pages(struct host *h, unsigned column) {
+    for (unsigned i = 0; i < WINDOWS; i++) {
+        uint16_t addr = (uint16_t)window_start(i);
+        struct namco163_page page = i < PRG_WINDOWS ? namco163_prg_entry(h->image, addr) : namco163_chr_entry(h->image, addr);
+        h->shown[column][i] = (unsigned)(page.offset / NAMCO163_PAGE_SIZE);
+    }
+}
+
+/* A cell: the page's number, and in colour where it is another than in the column before. */
+static void put_cell(FILE *f, const struct host *h, unsigned column, unsigned window) {
+    unsigned x = LABEL + CELL * column, y = ROW * (window + 1), page = h->shown[column][window];
+    int changed = column > 0 && page != h->shown[column - 1][window];
+    const char *fill = changed ? "#f4a259" : "#e4e8ec";
+    fprintf(f, "<rect x=\"%u\" y=\"%u\" width=\"%d\" height=\"%d\" fill=\"%s\"/>", x, y, CELL - 2, ROW - 2, fill);
+    fprintf(f, "<text x=\"%u\" y=\"%u\" text-anchor=\"middle\">%u</text>\n", x + CELL / 2 - 1, y + ROW - 6, page);
+}
+
+/* The page map: a column for each bar, a row for each window. */
+static void put_picture(FILE *f, const struct host *h) {
+    fprintf(f, "<svg xmlns=\"http://www.w3.org/2000/svg\" width=\"%d\" height=\"%d\" font-family=\"monospace\" font-size=\"11\">\n",
+            LABEL + CELL * COLUMNS, ROW * (WINDOWS + 1));
+    fprintf(f, "<rect width=\"100%%\" height=\"100%%\" fill=\"#ffffff\"/>\n");
+    for (unsigned column = 0; column < COLUMNS; column++) {
+        fprintf(f, "<text x=\"%u\" y=\"12\" text-anchor=\"middle\">", LABEL + CELL * column + CELL / 2 - 1);
+        if (column > 0) fprintf(f, "bar %u</text>\n", column);
+        else fprintf(f, "start</text>\n");
+    }
+    for (unsigned i = 0; i < WINDOWS; i++) {
+        fprintf(f, "<text x=\"4\" y=\"%u\">%s $%04X</text>\n", ROW * (i + 1) + ROW - 6, i < PRG_WINDOWS ? "CPU" : "PPU", window_start(i));
+        for (unsigned column = 0; column < COLUMNS; column++) put_cell(f, h, column, i);
+    }
+    fprintf(f, "</svg>\n");
+}
+
 /* ---- The sound */
 
 /* Writes one byte of sound RAM. */
@@ -150,7 +200,8 @@ static void put_sound(struct host *h, unsigned at, unsigned val) {
 /* The first sound register of voice 0, 1, 2 or of the bass, 3. */
 static unsigned registers(int voice) { return 0x78u - 8u * (unsigned)voice; }
 
-/* A pulse for each channel, high for 16, 8, 4 and 16 of its 32 samples. Two samples are a byte; on this board 7 is the highest and 8 the lowest. */
+/* A pulse for each channel, high for 16, 8, 4 and 16 of its 32 samples. Two samples are a byte; on this board 7 is the highest and 8 the
+ * lowest. */
 static void put_waves(struct host *h) {
     static const int high[CHANNELS] = {16, 8, 4, 16};
     for (int voice = 0; voice < CHANNELS; voice++) {
@@ -177,8 +228,9 @@ static void start_note(struct host *h, int voice, double hz) {
 /* What the tune starts at this step, or 0 while a note lasts or the tune is over. */
 static double note_at(int step) {
     const struct note tune[] = {
-        {C4, 2}, {D4, 2}, {E4, 2}, {C4, 2}, {C4, 2}, {D4, 2}, {E4, 2}, {C4, 2}, {E4, 2}, {F4, 2}, {G4, 4}, {E4, 2}, {F4, 2}, {G4, 4}, {G4, 1}, {A4, 1},
-        {G4, 1}, {F4, 1}, {E4, 2}, {C4, 2}, {G4, 1}, {A4, 1}, {G4, 1}, {F4, 1}, {E4, 2}, {C4, 2}, {C4, 2}, {G3, 2}, {C4, 4}, {C4, 2}, {G3, 2}, {C4, 4},
+        {C4, 2}, {D4, 2}, {E4, 2}, {C4, 2}, {C4, 2}, {D4, 2}, {E4, 2}, {C4, 2}, {E4, 2}, {F4, 2}, {G4, 4},
+        {E4, 2}, {F4, 2}, {G4, 4}, {G4, 1}, {A4, 1}, {G4, 1}, {F4, 1}, {E4, 2}, {C4, 2}, {G4, 1}, {A4, 1},
+        {G4, 1}, {F4, 1}, {E4, 2}, {C4, 2}, {C4, 2}, {G3, 2}, {C4, 4}, {C4, 2}, {G3, 2}, {C4, 4},
     };
     int starts = 0;
     for (size_t i = 0; i < sizeof tune / sizeof tune[0]; i++) {
@@ -240,14 +292,27 @@ static void handle_interrupt(struct host *h, int frame) {
     if (step % ENTRY == 0 && step / ENTRY < VOICES) printf(", voice %d enters", step / ENTRY + 1);
     printf("\n");
     switch_banks(h, (unsigned)(step / BAR) + 1);
+    note_pages(h, (unsigned)(step / BAR) + 1);
+}
+
+/* A file to be written, and a file that was. */
+static FILE *opened(const char *name) {
+    FILE *f = fopen(name, "wb");
+    if (!f) stop(name, "cannot be written");
+    return f;
+}
+
+static void closed(FILE *f, const char *name) {
+    if (ferror(f) || fclose(f) != 0) stop(name, "could not be written whole");
 }
 
 int main(int argc, char **argv) {
     static struct host h;
     const int frames = STEPS * STEP_FRAMES + LAST_FRAMES;
-    if (argc != 2) stop("usage", "tune FILE.wav");
-    h.wav = fopen(argv[1], "wb");
-    if (!h.wav) stop(argv[1], "cannot be written");
+    FILE *picture;
+    if (argc != 3) stop("usage", "tune FILE.wav FILE.svg");
+    h.wav = opened(argv[1]);
+    picture = opened(argv[2]);
     put_header(h.wav, 0);
     load(&h);
     printf("Each write answers which addresses show other memory than before. Console RAM for the nametables:\n");
@@ -255,6 +320,7 @@ int main(int argc, char **argv) {
         switch_bank(&h, NAMETABLE_SLOT + SLOT_STEP * i, 0xE0 + i / 2);
         printf("\n");
     }
+    note_pages(&h, 0);
     put_waves(&h);
     arm_counter(&h);
     printf("Playing \"Frere Jacques\" as a round on sound channels 7, 6 and 5, with a bass on 4. The board's counter raises an\n"
@@ -265,10 +331,13 @@ int main(int argc, char **argv) {
         handle_interrupt(&h, frame);
     }
     put_header(h.wav, (uint32_t)h.samples);
-    if (ferror(h.wav) || fclose(h.wav) != 0) stop(argv[1], "could not be written whole");
+    closed(h.wav, argv[1]);
+    put_picture(picture, &h);
+    closed(picture, argv[2]);
     free(h.arena);
     printf("%d interrupts in %lu clocks, the last at clock %lu; %lu samples, one every 15 clocks.\n", frames, (unsigned long)h.clocks,
            (unsigned long)h.rise, (unsigned long)h.samples);
     printf("Wrote %s: %.1f seconds of sound.\n", argv[1], (double)h.clocks / CPU_CLOCK);
+    printf("Wrote %s: which page of the arena each window showed, bar by bar.\n", argv[2]);
     return 0;
 }

@@ -1,9 +1,11 @@
+/* SPDX-License-Identifier: MIT OR Apache-2.0 */
 /* The cartridge boards Namco 163, 175 and 340 of the NES (iNES mappers 19 and 210), for a C or C++ host.
  *
  * A cartridge is two blocks of bytes that the host owns and lends to each call:
  *   image  307 bytes: registers, sound chip, page tables, sizes. The library alone writes it; it may be copied and kept like any bytes.
  *   arena  the cartridge's memory: ROM, RAM and nametables, one after the other.
- * Image and arena together are the whole state, so copies of both are a save state. The library keeps nothing between calls and allocates nothing.
+ * Image and arena together are the whole state, so copies of both are a save state. The library keeps nothing between calls and allocates
+ * nothing.
  *
  * A host
  *   1. asks namco163_arena_of for the arena's length and allocates image and arena;
@@ -11,11 +13,17 @@
  *   3. copies the cartridge's ROM bytes (and a saved PRG-RAM) into the arena itself, at the places that namco163_arena_of gives;
  *   4. calls namco163_write and namco163_read for each access of the CPU from 4800 on, and namco163_run for the clocks in between.
  *
- * Each call answers 64 bits: in bits 0..7 a refusal number, 0 for accepted, and what it found in the others (see the accessors below). A refused
- * call has all other bits 0 and leaves image, arena and samples as they were. Any numbers, lengths and bytes may be passed.
+ * Each call answers 64 bits: in bits 0..7 a refusal number, 0 for accepted, and what it found in the others (see the accessors below).
+ * Where a call is refused the others are 0, and image, arena and samples are as they were. Any numbers, lengths and bytes may be passed.
  *
- * What the host owes: each pointer is to as many bytes as the length behind it says, is not null (also where the length is 0), and the blocks
- * passed to one call do not overlap. Addresses in these comments are hexadecimal, sizes decimal. */
+ * What the host owes:
+ *   - each pointer is to as many bytes as the length behind it says, and is not null (also where the length is 0);
+ *   - the blocks passed to one call do not overlap;
+ *   - the thread's floating-point environment is C's default: rounding to nearest, exceptions masked. Under FE_DOWNWARD the bits of a
+ *     sample may be others, and with FE_INEXACT unmasked a run traps. No other call rounds.
+ *
+ * The calls lend bytes and no floats: what a call leaves alone keeps every bit, a NaN's payload too. Calls on different blocks may be made
+ * by different threads at once. Addresses in these comments are hexadecimal, sizes decimal. */
 #ifndef NAMCO163_H
 #define NAMCO163_H
 
@@ -26,6 +34,15 @@
 #ifdef __cplusplus
 extern "C" {
 #endif
+
+/* The version of this header and of the archive that belongs to it. */
+#define NAMCO163_VERSION_MAJOR 0
+#define NAMCO163_VERSION_MINOR 2
+#define NAMCO163_VERSION_PATCH 0
+#define NAMCO163_TEXT_OF(x) #x
+#define NAMCO163_TEXT(x) NAMCO163_TEXT_OF(x)
+#define NAMCO163_VERSION \
+    NAMCO163_TEXT(NAMCO163_VERSION_MAJOR) "." NAMCO163_TEXT(NAMCO163_VERSION_MINOR) "." NAMCO163_TEXT(NAMCO163_VERSION_PATCH)
 
 #define NAMCO163_IMAGE_SIZE 307u  /* bytes of an image */
 #define NAMCO163_PAGE_SIZE 1024u  /* bytes of a page: regions are whole pages, and page table entries show one each */
@@ -69,33 +86,37 @@ enum namco163_reset_kinds { NAMCO163_SOFT = 0, NAMCO163_HARD = 1 };
  *   mapper       19 (Namco 163) or 210 (Namco 175 and 340)
  *   submapper    the NES 2.0 submapper; for mapper 210, 1 is a 175, 2 a 340, and with another number the board is found by what is written
  *   flags        byte 6 of the iNES header: bit 3 four screens, else bit 0 vertical (1) or horizontal (0) mirroring
- *   in_database  0 for no, any other for yes: the game is known, so a board of mapper 19 is a 163 for good; else it may turn out to be another
- *   prg_rom, prg_ram, battery, chr, ciram   sizes in bytes, each rounded up to whole pages; a CIRAM of 0 means 2048. The battery reserve holds a
- *                163's sound RAM; 128 is what the chip has, and mapper 19 needs 1 or more
+ *   in_database  0 for no, any other for yes: the game is known, so a board of mapper 19 is a 163 for good; else it may turn out to be
+ *                another
+ *   prg_rom, prg_ram, battery, chr, ciram   sizes in bytes, each rounded up to whole pages; a CIRAM of 0 means 2048. The battery reserve
+ *                holds a 163's sound RAM; 128 is what the chip has, and mapper 19 needs 1 or more
  *   chr_ram      0: CHR is ROM; any other: CHR is RAM
  * Answers the refusal number alone: 0, or 1, 4, 5, 6, 7. */
-uint64_t namco163_load(uint8_t *image, size_t image_len, uint8_t *arena, size_t arena_len, uint64_t mapper, uint8_t submapper, uint8_t flags,
-                       uint64_t in_database, uint64_t prg_rom, uint64_t prg_ram, uint64_t battery, uint64_t chr, uint64_t chr_ram,
-                       uint64_t ciram);
+uint64_t namco163_load(uint8_t *image, size_t image_len, uint8_t *arena, size_t arena_len, uint64_t mapper, uint8_t submapper,
+                       uint8_t flags, uint64_t in_database, uint64_t prg_rom, uint64_t prg_ram, uint64_t battery, uint64_t chr,
+                       uint64_t chr_ram, uint64_t ciram);
 
-/* A CPU read of 4800..FFFF. 4800..4FFF is the sound port, and such a read may move the sound address in the image; 5000..5FFF is the IRQ counter,
- * and the rest is memory by the page table. A read from 5000 on changes nothing.
+/* A CPU read of 4800..FFFF. 4800..4FFF is the sound port, and such a read may move the sound address in the image; 5000..5FFF is the IRQ
+ * counter, and the rest is memory by the page table. A read from 5000 on changes nothing.
  * Answers the byte (namco163_byte), or refusal 1, 2, 7, 8. */
 uint64_t namco163_read(uint8_t *image, size_t image_len, const uint8_t *arena, size_t arena_len, uint16_t addr);
 
-/* A CPU write to 4800..FFFF: stores into the arena where the page is writable (one byte at most), then writes the board's register, in the image.
- * Answers which page table entries changed (namco163_prg_mask, namco163_chr_mask), or refusal 1, 2, 7, 8. What the host has derived from an
- * entry, such as translated code or a pointer, is out of date once its bit is set; namco163_prg_entry and namco163_chr_entry have the new ones. */
+/* A CPU write to 4800..FFFF: stores into the arena where the page is writable (one byte at most), then writes the board's register, in the
+ * image. Answers which page table entries changed (namco163_prg_mask, namco163_chr_mask), or refusal 1, 2, 7, 8. What the host has derived
+ * from an entry, such as translated code or a pointer, is out of date once its bit is set; namco163_prg_entry and namco163_chr_entry have
+ * the new ones. */
 uint64_t namco163_write(uint8_t *image, size_t image_len, uint8_t *arena, size_t arena_len, uint16_t addr, uint8_t val);
 
-/* So many CPU clocks, 0..65,536: counts the IRQ counter and plays the sound, in the image. Each 15th enabled clock of a 163 makes one sample; the
- * samples go to the start of `samples`, and the bytes behind them stay. How clocks are cut into runs does not show in samples, rises or state.
- * Answers how many samples were made (namco163_samples), and on which clock of this run, from 1, the IRQ line rose, or 0 (namco163_rise); or
- * refusal 1, 2, 10, 11. The line stays up until the counter is written at 5000..5FFF. */
+/* So many CPU clocks, 0..65,536: counts the IRQ counter and plays the sound, in the image. Each 15th enabled clock of a 163 makes one
+ * sample; the samples go to the start of `samples`, and the bytes behind them stay. How clocks are cut into runs does not show in samples,
+ * rises or state. Answers how many samples were made (namco163_samples), and on which clock of this run, from 1, the counter reached its
+ * end and raised the IRQ line, or 0 (namco163_rise); or refusal 1, 2, 10, 11. The line stays up until the counter is written at 5000..5FFF,
+ * or until a hard reset. */
 uint64_t namco163_run(uint8_t *image, size_t image_len, uint8_t *samples, size_t samples_len, uint64_t clocks);
 
-/* The console's reset: 0 soft (button), 1 hard (power). Both clear the sound chip with its RAM; hard also clears the IRQ counter and takes the line
- * down. No page table entry changes, but the next write that maps pages shows the first page of CIRAM in all nametables of a 163.
+/* The console's reset: 0 soft (button), 1 hard (power). Both clear the sound chip with its RAM; hard also clears the IRQ counter, takes the
+ * line down and clears the select and protect registers. No page table entry changes, but the next write that maps pages shows the first
+ * page of CIRAM in all nametables of a 163.
  * Answers the refusal number alone: 0, or 1, 2, 3. */
 uint64_t namco163_reset(uint8_t *image, size_t image_len, uint64_t kind);
 
@@ -148,9 +169,10 @@ static inline float namco163_sample(const uint8_t *bytes) {
 
 /* ---- The arena */
 
-/* Where each region starts in the arena, and the arena's length, in bytes. The order is: a page that unmapped addresses show, PRG-ROM, CHR if it is
- * ROM, PRG-RAM, battery reserve, CHR if it is RAM, CIRAM (the nametables). A host writes ROM bytes at prg_rom and chr. What a battery keeps is the
- * PRG-RAM, at prg_ram, and of a 163 also the 128 bytes of sound RAM, image bytes 23 on, which go back by writes to F800 and 4800. */
+/* Where each region starts in the arena, and the arena's length, in bytes. The order is: a page that unmapped addresses show, PRG-ROM, CHR
+ * if it is ROM, PRG-RAM, battery reserve, CHR if it is RAM, CIRAM (the nametables). A host writes ROM bytes at prg_rom and chr. What a
+ * battery keeps is the PRG-RAM, at prg_ram, and of a 163 also the 128 bytes of sound RAM, image bytes 23 on, which go back by writes to
+ * F800 and 4800. */
 struct namco163_arena {
     size_t prg_rom, chr, prg_ram, battery, ciram, length;
 };
@@ -164,8 +186,8 @@ static inline size_t namco163_whole_pages(uint64_t size) {
 static inline struct namco163_arena namco163_arena_of(uint64_t prg_rom, uint64_t prg_ram, uint64_t battery, uint64_t chr, uint64_t chr_ram,
                                                       uint64_t ciram) {
     struct namco163_arena at = {0, 0, 0, 0, 0, 0};
-    if (prg_rom > NAMCO163_PRG_ROM_LIMIT || prg_ram > NAMCO163_PRG_RAM_LIMIT || battery > NAMCO163_BATTERY_LIMIT || chr > NAMCO163_CHR_LIMIT ||
-        ciram > NAMCO163_CIRAM_LIMIT)
+    if (prg_rom > NAMCO163_PRG_ROM_LIMIT || prg_ram > NAMCO163_PRG_RAM_LIMIT || battery > NAMCO163_BATTERY_LIMIT ||
+        chr > NAMCO163_CHR_LIMIT || ciram > NAMCO163_CIRAM_LIMIT)
         return at;
     at.prg_rom = NAMCO163_PAGE_SIZE;
     at.prg_ram = at.prg_rom + namco163_whole_pages(prg_rom) + (chr_ram ? 0 : namco163_whole_pages(chr));
@@ -183,7 +205,7 @@ static inline size_t namco163_arena_length(uint64_t prg_rom, uint64_t prg_ram, u
 
 /* ---- What an image shows. Each takes an image that a call has written. */
 
-/* A page table entry: the arena's byte that the page's first address shows, and whether stores reach it. An unmapped page shows byte 0 on. */
+/* A page table entry: the arena's byte that the page's first address shows, and if stores reach it. An unmapped page shows byte 0 on. */
 struct namco163_page {
     size_t offset;
     int writable;
@@ -205,7 +227,8 @@ static inline struct namco163_page namco163_prg_entry(const uint8_t *image, uint
     return namco163_entry(image, addr / NAMCO163_PAGE_SIZE);
 }
 
-/* What the PPU address (taken modulo 4000) shows: byte offset + addr % 1024 of the arena. The PPU reads and, where writable, stores there itself. */
+/* What the PPU address (taken modulo 4000) shows: byte offset + addr % 1024 of the arena. The PPU reads and, where writable, stores there
+ * itself. */
 static inline struct namco163_page namco163_chr_entry(const uint8_t *image, uint16_t addr) {
     return namco163_entry(image, NAMCO163_PRG_PAGES + addr / NAMCO163_PAGE_SIZE % NAMCO163_CHR_PAGES);
 }
