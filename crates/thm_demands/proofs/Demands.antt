@@ -3,7 +3,7 @@
 -- `requires`; only functions beside them have one, as the variants `.._known` for a state that is known to be in range.
 use Prim.Native.Nat.{ℕ, _+_, _^_, _<_}
 use mathlib.Core.Path.{_≡_, refl}
-use mathlib.Core.Bool.{false}
+use mathlib.Core.Bool.{false, not, _&&_}
 use mathlib.Core.List.{List, [], _∷_, _++_}
 use mathlib.Core.Logic.{_⊎_}
 use lib.Ieee.{Float}
@@ -14,6 +14,7 @@ use Rattle.cut.specs.Demand3.{observed, FirstRise}
 use Rattle.cut.specs.Machine.{machine}
 use Rattle.memory.specs.declared.layout.MemoryLayout.{MemoryLayout}
 use Rattle.memory.specs.Range.{Bytes}
+use Rattle.board_chip.specs.Load.{mirroringAtLoad}
 use Rattle.board_state.specs.declared.State.{State}
 use Rattle.board_state.specs.State.{Known}
 use Rattle.call_refusals.specs.Refusals.{firstOf, kindCheck, loadChecks}
@@ -35,6 +36,11 @@ use Rattle.thm_machine.proofs.Demand3 as Machine
 use Rattle.thm_range.specs.Fit.{Fit}
 use Rattle.thm_range.proofs.Lists.{always-fit, never-2-or-7}
 use Rattle.thm_range.proofs.Refused.{other-refused}
+use Rattle.thm_wiki.specs.Notes.{start as fresh}
+use Rattle.thm_wiki.specs.Lists.{beside, Plain}
+use Rattle.thm_wiki.specs.Agrees.{Agrees163, Agrees175, Agrees340}
+use Rattle.thm_wiki.proofs.Agrees163.{agrees-163}
+use Rattle.thm_wiki.proofs.Agrees210.{agrees-175, agrees-340}
 
 -- ---- D1: an unfit call gets the number of its first check that holds, and leaves state, arena and samples as they were
 
@@ -73,6 +79,21 @@ demand-2 = always-fit
 pub demand-2-refusals : (k : ℕ) → (k ≡ 2) ⊎ (k ≡ 7) → (l : Loaded) → l .submapper < 2 ^ 8 → (calls : List (Call Float Other))
     → AllTyped CallTyped calls → NeverRefused k (observed board calls (loaded l))
 demand-2-refusals = never-2-or-7
+
+-- ---- D2.2: after every list of calls without a reset the board agrees with the wiki's machine, but for departures that the claims name
+
+pub demand-2-wiki-163 : (l : Loaded) → l .mapper ≡ 19 → l .submapper < 2 ^ 8 → (calls : List (Call Float Other)) → AllTyped Plain calls
+    → let x = beside calls (loaded l) fresh in not (l .known) && x .notes .turned ≡ false
+    → Agrees163 x (observed board calls (loaded l) .state .state)
+demand-2-wiki-163 = agrees-163
+
+pub demand-2-wiki-175 : (l : Loaded) → l .mapper ≡ 210 → l .submapper ≡ 1 → (calls : List (Call Float Other)) → AllTyped Plain calls
+    → Agrees175 (mirroringAtLoad (l .flags)) (beside calls (loaded l) fresh) (observed board calls (loaded l) .state .state)
+demand-2-wiki-175 = agrees-175
+
+pub demand-2-wiki-340 : (l : Loaded) → l .mapper ≡ 210 → l .submapper ≡ 2 → (calls : List (Call Float Other)) → AllTyped Plain calls
+    → Agrees340 (mirroringAtLoad (l .flags)) (beside calls (loaded l) fresh) (observed board calls (loaded l) .state .state)
+demand-2-wiki-340 = agrees-340
 
 -- ---- D3.1, C19: a list is what the plain machine does with it, so how clocks are cut into runs does not show
 

@@ -1,10 +1,16 @@
--- The board agrees with the wiki but for its departures: the counter (Counter), the registers of a 163 (Beside, Windows, Pages, Writes),
--- work RAM and mirroring (WorkRam), the sound (Sound). docs/DIFFERENCES.md lists the departures.
+-- The board agrees with the wiki but for its departures: Agrees163 and Agrees210 have the theorems, Cases computed instances. Below them:
+-- laws of each subject, a board beside the machine (Stands, Stands210), and lists of calls.
 pub mod Tests
+pub mod Ranges
+pub mod Registers
 pub mod Counter
-pub mod Beside
-pub mod Windows
-pub mod Pages
-pub mod Writes
-pub mod WorkRam
+pub mod Channel
+pub mod Port
 pub mod Sound
+pub mod Shown
+pub mod Stands
+pub mod Stands210
+pub mod Lists
+pub mod Agrees163
+pub mod Agrees210
+pub mod Cases

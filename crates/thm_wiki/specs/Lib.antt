@@ -1,3 +1,11 @@
--- The wiki's facts, by the clauses of docs/WIKI.md, and the board beside them: the registers and the counter (Wiki), the sound (Sound).
-pub mod Wiki
+-- The wiki's words: registers, counter, sound and port, and the machine that they make. Beside it: what is noted where the board departs,
+-- the board in the wiki's terms, the steps of public calls, and what agreement is.
+pub mod Registers
+pub mod Counter
 pub mod Sound
+pub mod Port
+pub mod Machine
+pub mod Notes
+pub mod Shown
+pub mod Lists
+pub mod Agrees

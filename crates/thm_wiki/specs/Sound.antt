@@ -1,25 +1,11 @@
--- The outside definition: Namco 163 audio as the NESdev wiki has it (W15 to W21), written without the Rust. `ram` is the chip's RAM.
-use Prim.Native.Nat.{ℕ, _+_, _-_, _*_, _/_, _%_, _<_}
-use mathlib.Core.Path.{_≡_}
-use mathlib.Core.Bool.{Bool, cond}
+-- The outside definition of the sound: Namco 163 audio as docs/WIKI.md has it, written without the Rust. `ram` is the chip's RAM, with the
+-- phases in it (W16).
+use Prim.Native.Nat.{ℕ, _+_, _-_, _*_, _/_, _%_}
+use mathlib.Core.Bool.{Bool, false, cond}
 use mathlib.Core.List.{List, [], _∷_}
 use lib.Dec.{eqb, leb}
-use lib.ListN.{getD, set}
 use lib.IntN.{ℤ, pos, _-ℤ_, _*ℤ_}
-
--- ---- the port: W15
-
--- W15: the address that a value of the address port has, its bits 0..6
-abbrev pub wikiAddress : ℕ → ℕ
-wikiAddress val = val % 128
-
--- W15: and whether it sets auto-increment, its bit 7
-abbrev pub wikiAuto : ℕ → Bool
-wikiAuto val = leb 128 val
-
--- W15: the address after an access of the data port: the next one where auto-increment is set, and 0 after 7F
-abbrev pub wikiAdvance : Bool → ℕ → ℕ
-wikiAdvance auto addr = cond auto (cond (eqb addr 0x7F) 0 (addr + 1)) addr
+use lib.ListN.{getD, set, replicate}
 
 -- ---- a channel's registers, at base b: W16, W19
 
@@ -88,21 +74,58 @@ unfoldable pub wikiSum : ℕ → ℕ → List ℕ → ℕ
 wikiSum c k [] = 0
 wikiSum c k (x ∷ xs) = cond (wikiEnabled c k) x 0 + wikiSum c (k + 1) xs
 
--- W18: the channel of update i, counted from 0
-abbrev pub wikiTurn : ℕ → ℕ → ℕ
-wikiTurn c i = 7 - i % (c + 1)
+-- ---- the chip
 
--- W18: how many updates so many cycles make
-abbrev pub wikiUpdates : ℕ → ℕ
-wikiUpdates cycles = cycles / 15
+-- the RAM, the port's address and auto-increment (W15), whether the sound is off (W11), the cycles since the last update, whose turn it is
+-- (W18), and what each channel put out last (W20)
+pub record WikiSound : Type 0 where
+  pub ram : List ℕ
+  pub addr : ℕ
+  pub auto : Bool
+  pub silent : Bool
+  pub timer : ℕ
+  pub turn : ℕ
+  pub outs : List ℤ
 
--- ---- what the board keeps apart: S9
+-- W22: how it begins
+abbrev pub noSound : WikiSound
+noSound = record { ram = replicate 128 0; addr = 0; auto = false; silent = false; timer = 0; turn = 7; outs = replicate 8 (pos 0) }
 
--- W16: a byte that holds no phase of any channel
-abbrev pub NoPhase : ℕ → Type 0
-NoPhase j = (k : ℕ) → (j ≡ wikiBase k + 1 → ⊥) × ((j ≡ wikiBase k + 3 → ⊥) × (j ≡ wikiBase k + 5 → ⊥))
+-- the base of the channel whose turn it is, and its next phase
+abbrev pub wikiAt : WikiSound → ℕ
+wikiAt w = wikiBase (w .turn)
 
--- S9: the wiki's RAM holds what the board keeps in its sound RAM and, apart from it, in its phases
-pub record Holds (wiki ram phases : List ℕ) : Type 0 where
-  pub others : (j : ℕ) → NoPhase j → getD wiki j 0 ≡ getD ram j 0
-  pub phase : (k : ℕ) → k < 8 → wikiPhase wiki (wikiBase k) ≡ getD phases k 0
+abbrev pub wikiNext : WikiSound → ℕ
+wikiNext w = wikiNextPhase (w .ram) (wikiAt w)
+
+-- W18, W23: whose turn it is after channel k
+abbrev pub wikiNextTurn : ℕ → ℕ → ℕ
+wikiNextTurn c k = cond (leb k (7 - c)) 7 (k - 1)
+
+-- W20: an update: the phase, the output, the turn
+unfoldable pub wikiUpdate : WikiSound → WikiSound
+wikiUpdate w =
+    record {
+      ram = wikiStored (w .ram) (wikiAt w) (wikiNext w);
+      addr = w .addr;
+      auto = w .auto;
+      silent = w .silent;
+      timer = 0;
+      turn = wikiNextTurn (wikiCount (w .ram)) (w .turn);
+      outs = set (w .outs) (w .turn) (wikiOutput (w .ram) (wikiAt w) (wikiNext w));
+    }
+
+-- W18, W24: one CPU cycle; a sound that is off stands still
+unfoldable pub soundCycle : WikiSound → WikiSound
+soundCycle w =
+    cond (w .silent) w
+    (cond (eqb (w .timer + 1) 15) (wikiUpdate w)
+    (record {
+      ram = w .ram;
+      addr = w .addr;
+      auto = w .auto;
+      silent = w .silent;
+      timer = w .timer + 1;
+      turn = w .turn;
+      outs = w .outs;
+    }))

@@ -1,0 +1,189 @@
+-- The theorems of a 175 and of a 340: after every list of public calls from an accepted load of mapper 210, submapper 1 or 2, refused calls
+-- among them, the board agrees with the wiki's machine, but for the departures that `Agrees175` and `Agrees340` name. A list has no reset,
+-- which the wiki does not define.
+use Prim.Native.Nat.{ℕ, _<_}
+use mathlib.Core.Path.{_≡_, refl, sym, ap, subst, _∙_}
+use mathlib.Core.Bool.{Bool, true, false}
+use mathlib.Core.List.{List}
+use native.Mathlib.Omega.{arith}
+use borrow.Author.Needs.{needs}
+use borrow.Author.Tests.{eq-eqb}
+use lib.Ieee.{Float}
+use lib.IntN.{pos}
+use lib.ListN.{getD}
+use Rattle.cut.specs.Calls.{Call, start as startAt}
+use Rattle.cut.specs.Always.{AllTyped}
+use Rattle.cut.specs.Demand3.{observed}
+use Rattle.limits.proofs.Each.{cond-holds}
+use Rattle.memory.specs.declared.layout.MemoryLayout.{MemoryLayout}
+use Rattle.memory.specs.declared.mirroring.Mirroring.{Mirroring}
+use Rattle.board_chip.specs.declared.namco163.Board.{Board}
+use Rattle.board_chip.specs.declared.namco163.Board.the-variants.{Namco175, Namco340}
+use Rattle.board_chip.specs.Namco163.{is163}
+use Rattle.board_chip.specs.Detection.{prgRamReadable, prgRamWritable}
+use Rattle.board_chip.specs.Load.{mirroringAtLoad}
+use Rattle.board_registers.specs.Writes.{writeChip, remaps}
+use Rattle.board_state.specs.declared.State.{State}
+use Rattle.board_state.specs.State.{Known}
+use Rattle.call_cpu.specs.Calls.{writeRegister}
+use Rattle.call_load.specs.Cartridge.{memoryAtLoad, freshState}
+use Rattle.call_refusals.specs.Refusals.{firstOf, batteryChecks}
+use Rattle.call_refusals.proofs.Laws.{accepted-none}
+use Rattle.call_run.specs.Clock.{stateClock}
+use Rattle.thm_machine.specs.Calls.{Held, Other}
+use Rattle.thm_machine.specs.Board.{board}
+use Rattle.thm_machine.specs.Start.{Loaded, loaded}
+use Rattle.thm_machine.proofs.Start.{load-starts}
+use Rattle.thm_range.proofs.Calls.{load-fits}
+use Rattle.thm_range.proofs.Lists.{always-fit}
+use Rattle.thm_steps.proofs.Banking.{Kept as MemoryKept, kept-self, update-banks-kept}
+use Rattle.thm_wiki.specs.Registers.{wikiBit}
+use Rattle.thm_wiki.specs.Notes.{Noted, start}
+use Rattle.thm_wiki.specs.Shown.{Mapped, entryOf, prgEntry, ramEntry}
+use Rattle.thm_wiki.specs.Lists.{beside, Plain}
+use Rattle.thm_wiki.specs.Agrees.{Agrees210, Agrees175, Agrees340, MirroredBy, RamIs, selectedBy}
+use Rattle.thm_wiki.proofs.Tests.{never}
+use Rattle.thm_wiki.proofs.Ranges.{firm-settled}
+use Rattle.thm_wiki.proofs.Counter.{counter-agrees}
+use Rattle.thm_wiki.proofs.Port.{port-byte}
+use Rattle.thm_wiki.proofs.Shown.Steps.{write-mapped, read-mapped, clock-mapped, load-mapped}
+use Rattle.thm_wiki.proofs.Stands210.{Stands210, stands-175, stands-340, write-stands, read-stands, cycle-stands}
+use Rattle.thm_wiki.proofs.Lists.{Kept, along, plain-typed}
+
+-- L5: no battery byte is used, and no write changes that
+used-kept : (s : State) (a v : ℕ) → writeRegister s a v .memory .«battery_ext_len» ≡ s .memory .«battery_ext_len»
+unfolding writeRegister
+used-kept s a v =
+    cond-holds (MemoryKept (s .memory)) (remaps (s .chip .board) (writeChip (s .chip) a v .board) a) _ _
+    (update-banks-kept (writeChip (s .chip) a v) (s .memory)) (kept-self (s .memory)) .used
+
+-- N12: so a restore is refused
+no-restore : (s : State) (len : ℕ) → s .memory .«battery_ext_len» ≡ 0 → firstOf (batteryChecks s len) ≡ 0 → ⊥
+no-restore s len u e =
+    let h = accepted-none (batteryChecks s len) (search needs) e in
+    never (sym (eq-eqb (s .memory .«battery_ext_len») 0 u) ∙ h .1 .1 .0)
+
+module _ (b : Board) (m : Mirroring) (other : is163 b ≡ false) where
+  -- ---- what every step keeps
+
+  record Good (x : Noted) (s : State) : Type 0 where
+    stands : Stands210 b m other x (s .chip)
+    mapped : Mapped (s .chip) (s .memory)
+    used : s .memory .«battery_ext_len» ≡ 0
+
+  kept : Kept Good
+  unfolding writeRegister stateClock
+  kept =
+      record {
+        write = λ x s a v small y q.
+            record {
+              stands = write-stands b m other x (s .chip) a v small (y .typed .chip) (q .stands);
+              mapped = write-mapped s a v (firm-settled (s .chip) a v (q .stands .settled)) (y .typed .memory) (q .mapped);
+              used = used-kept s a v ∙ q .used;
+            };
+        read = λ x s a y q.
+            record {
+              stands = read-stands b m other x (s .chip) a (q .stands);
+              mapped = read-mapped (s .chip) a (s .memory) (q .mapped);
+              used = q .used;
+            };
+        cycle = λ x s y q.
+            record {
+              stands = cycle-stands b m other x (s .chip) (y .typed .chip) (q .stands);
+              mapped = clock-mapped (s .chip) (s .memory) (q .mapped);
+              used = q .used;
+            };
+        restore = λ x s len bytes e l y q. absurd (no-restore s len (q .used) e);
+      }
+
+  -- ---- what that says
+
+  module _ (x : Noted) (s : State) (y : Known s) (g : Good x s) where
+    not-163 : is163 (s .chip .board) ≡ false
+    not-163 = ap is163 (g .stands .board) ∙ other
+
+    both : Agrees210 x s
+    both =
+        record {
+          prg =
+              record {
+                switched = λ k h i z.
+                    g .mapped .prg k h i z ∙ ap (λ (p : ℕ). prgEntry (s .memory) (pos p) i) (g .stands .prg k h);
+                last = g .mapped .last;
+              };
+          chr = λ k h. g .mapped .chr k (rw not-163 h) ∙ ap (entryOf (s .memory)) (g .stands .chr k h);
+          counter = counter-agrees (x .machine .irq) s (y .typed .chip .counter) (g .stands .irq);
+          address = (g .stands .port .addr, g .stands .port .auto);
+          port = λ arena a l h. port-byte s arena a l h ∙ ap (λ (i : ℕ). getD (s .chip .audio .ram) i 0) (g .stands .port .addr);
+        }
+
+    nametables : (k : Mirroring) → s .chip .mirroring ≡ k → MirroredBy s k
+    nametables k e = subst (MirroredBy s) e (g .mapped .mirrored not-163)
+
+    work-ram : RamIs s (prgRamReadable b) (prgRamWritable b (s .chip .regs .«prg_ram_protect»))
+    work-ram i h =
+        g .mapped .ram i h
+        ∙ ap (λ (o : Board). ramEntry (s .memory) (prgRamReadable o) (prgRamWritable o (s .chip .regs .«prg_ram_protect»)) i)
+        (g .stands .board)
+
+-- ---- every list of calls from a load
+
+fresh-used : (sub flags : ℕ) (known : Bool) (sizes : MemoryLayout) → freshState 210 sub flags known sizes .memory .«battery_ext_len» ≡ 0
+unfolding freshState memoryAtLoad
+fresh-used sub flags known sizes = update-banks-kept _ _ .used
+
+-- the load of a list, by its numbers
+fresh-at : (l : Loaded) (sub : ℕ) (P : State → Type 0) → l .mapper ≡ 210 → l .submapper ≡ sub
+    → P (freshState 210 sub (l .flags) (l .known) (l .sizes)) → P (loaded l .state)
+fresh-at l sub P m e p =
+    subst (λ (h : Held). P (h .state)) (sym (load-starts l))
+    (subst (λ (k : ℕ). P (freshState k (l .submapper) (l .flags) (l .known) (l .sizes))) (sym m)
+    (subst (λ (k : ℕ). P (freshState 210 k (l .flags) (l .known) (l .sizes))) (sym e) p))
+
+pub agrees-175 : (l : Loaded) → l .mapper ≡ 210 → l .submapper ≡ 1 → (calls : List (Call Float Other)) → AllTyped Plain calls
+    → Agrees175 (mirroringAtLoad (l .flags)) (beside calls (loaded l) start) (observed board calls (loaded l) .state .state)
+unfolding freshState
+agrees-175 l m e calls t =
+    let k = mirroringAtLoad (l .flags) in
+    let sub : l .submapper < 256 = omega (arith, e) in
+    let x = beside calls (loaded l) start in
+    let s = observed board calls (loaded l) .state .state in
+    let y = always-fit l sub calls (plain-typed calls t) .known in
+    let first : Good Namco175 k refl start (loaded l .state) =
+    fresh-at l 1 (Good Namco175 k refl start) m e
+    (record {
+      stands = stands-175 (l .flags) (l .known);
+      mapped = load-mapped 210 1 (l .flags) (l .known) (l .sizes);
+      used = fresh-used 1 (l .flags) (l .known) (l .sizes);
+    }) in
+    let g = along (Good Namco175 k refl) (kept Namco175 k refl) calls (startAt (loaded l)) start t (load-fits l sub) first in
+    record {
+      both = both Namco175 k refl x s y g;
+      wired = nametables Namco175 k refl x s y g k (g .stands .wired refl);
+      ram = λ i h.
+          work-ram Namco175 k refl x s y g i h ∙ ap (λ (w : Bool). ramEntry (s .memory) true w i) (g .stands .enabled refl);
+      gate = λ p. ap (wikiBit 0) (g .stands .gate p);
+    }
+
+pub agrees-340 : (l : Loaded) → l .mapper ≡ 210 → l .submapper ≡ 2 → (calls : List (Call Float Other)) → AllTyped Plain calls
+    → Agrees340 (mirroringAtLoad (l .flags)) (beside calls (loaded l) start) (observed board calls (loaded l) .state .state)
+unfolding freshState
+agrees-340 l m e calls t =
+    let k = mirroringAtLoad (l .flags) in
+    let sub : l .submapper < 256 = omega (arith, e) in
+    let x = beside calls (loaded l) start in
+    let s = observed board calls (loaded l) .state .state in
+    let y = always-fit l sub calls (plain-typed calls t) .known in
+    let first : Good Namco340 k refl start (loaded l .state) =
+    fresh-at l 2 (Good Namco340 k refl start) m e
+    (record {
+      stands = stands-340 (l .flags) (l .known);
+      mapped = load-mapped 210 2 (l .flags) (l .known) (l .sizes);
+      used = fresh-used 2 (l .flags) (l .known) (l .sizes);
+    }) in
+    let g = along (Good Namco340 k refl) (kept Namco340 k refl) calls (startAt (loaded l)) start t (load-fits l sub) first in
+    record {
+      both = both Namco340 k refl x s y g;
+      selected = nametables Namco340 k refl x s y g (selectedBy k x) (g .stands .selected refl);
+      ram = work-ram Namco340 k refl x s y g;
+    }
