@@ -37,7 +37,7 @@ extern "C" {
 
 /* The version of this header and of the archive that belongs to it. */
 #define NAMCO163_VERSION_MAJOR 0
-#define NAMCO163_VERSION_MINOR 2
+#define NAMCO163_VERSION_MINOR 3
 #define NAMCO163_VERSION_PATCH 0
 #define NAMCO163_TEXT_OF(x) #x
 #define NAMCO163_TEXT(x) NAMCO163_TEXT_OF(x)
@@ -47,8 +47,8 @@ extern "C" {
 #define NAMCO163_IMAGE_SIZE 307u  /* bytes of an image */
 #define NAMCO163_PAGE_SIZE 1024u  /* bytes of a page: regions are whole pages, and page table entries show one each */
 #define NAMCO163_SAMPLE_SIZE 4u   /* bytes of a sample */
-#define NAMCO163_CLOCK_LIMIT 65536u /* clocks of one run, at most */
-#define NAMCO163_MOST_SAMPLES 4370u /* samples of one run, at most */
+#define NAMCO163_CLOCK_LIMIT 29781u /* clocks of one run, at most */
+#define NAMCO163_MOST_SAMPLES 1986u /* samples of one run, at most */
 #define NAMCO163_UPDATE_CLOCKS 15u  /* CPU clocks from one sample to the next */
 
 /* The largest sizes that a load accepts, in bytes. */
@@ -74,7 +74,7 @@ enum namco163_refusals {
     NAMCO163_ARENA_LENGTH = 7,   /* load, read, write: the arena's length is not that of the sizes */
     NAMCO163_ADDRESS = 8,        /* read, write: the CPU address is below 4800 */
     NAMCO163_FILL_LENGTH = 9,    /* no C call: a fill is longer than its region */
-    NAMCO163_CLOCKS = 10,        /* run: more than 65,536 clocks */
+    NAMCO163_CLOCKS = 10,        /* run: more than 29,781 clocks */
     NAMCO163_SAMPLES_LENGTH = 11, /* run: there is no room for the samples that it makes; whole groups of 4 bytes count */
     NAMCO163_BATTERY_UNUSED = 12 /* no C call: battery sync or restore without a used battery */
 };
@@ -107,7 +107,7 @@ uint64_t namco163_read(uint8_t *image, size_t image_len, const uint8_t *arena, s
  * the new ones. */
 uint64_t namco163_write(uint8_t *image, size_t image_len, uint8_t *arena, size_t arena_len, uint16_t addr, uint8_t val);
 
-/* So many CPU clocks, 0..65,536: counts the IRQ counter and plays the sound, in the image. Each 15th enabled clock of a 163 makes one
+/* So many CPU clocks, 0..29,781: counts the IRQ counter and plays the sound, in the image. Each 15th enabled clock of a 163 makes one
  * sample; the samples go to the start of `samples`, and the bytes behind them stay. How clocks are cut into runs does not show in samples,
  * rises or state. Answers how many samples were made (namco163_samples), and on which clock of this run, from 1, the counter reached its
  * end and raised the IRQ line, or 0 (namco163_rise); or refusal 1, 2, 10, 11. The line stays up until the counter is written at 5000..5FFF,
@@ -146,7 +146,7 @@ static inline const char *namco163_refusal_text(unsigned refusal) {
         "accepted", "the image is not 307 bytes long", "the image holds a field out of range", "the reset kind is neither 0 nor 1",
         "the mapper is neither 19 nor 210", "a size is above its limit", "mapper 19 needs a battery reserve of 1 byte or more",
         "the arena's length is not that of the sizes", "the CPU address is below $4800", "the fill is longer than its region",
-        "the run is longer than 65536 clocks", "there is no room for the run's samples", "no battery is in use",
+        "the run is longer than 29781 clocks", "there is no room for the run's samples", "no battery is in use",
     };
     return refusal < sizeof texts / sizeof texts[0] ? texts[refusal] : "no refusal has this number";
 }

@@ -22,11 +22,11 @@ made n s = length (clocks n s .stretch .samples)
 
 -- C4, N10: the most clocks of a run
 abbrev pub runLimit : ℕ
-runLimit = 65536
+runLimit = 29781
 
 -- C6: as many samples as a run can make; `samples-most` says that it is what the longest run makes from the greatest update counter
 abbrev pub samplesMost : ℕ
-samplesMost = 4370
+samplesMost = 1986
 
 -- N10: more clocks than a run may have
 abbrev pub lengthCheck : ℕ → Check

@@ -16,10 +16,10 @@ ghost use Rattle.board_state.specs.State.{inRange};
 ghost use Rattle.call_run.specs.Run.{made, runChecks, runGave, ranOf};
 
 // N10: the most clocks of a run.
-pub const RUN_LIMIT: u64 = 65_536;
+pub const RUN_LIMIT: u64 = 29_781;
 
 // As many samples as a run can make: RUN_LIMIT clocks from the greatest update counter.
-pub const SAMPLES_MOST: usize = 4_370;
+pub const SAMPLES_MOST: usize = 1_986;
 
 // C5: a run's answer: its refusal or 0, the samples made, the clock of the rise, from 1, or 0, and the state.
 pub struct Ran {
