@@ -7,7 +7,7 @@
 #include "namco163.h"
 
 /* T0: layout P, 52 pages. */
-enum { ARENA = 53248, SAMPLES = 4 * 4370 + 3 };
+enum { ARENA = 53248, SAMPLES = 4 * NAMCO163_MOST_SAMPLES + 3 };
 
 static uint8_t image[NAMCO163_IMAGE_SIZE + 1], arena[ARENA + 1], samples[SAMPLES];
 static uint8_t image_before[sizeof image], arena_before[sizeof arena], samples_before[sizeof samples];
@@ -38,6 +38,10 @@ static uint64_t write_at(unsigned addr, unsigned val) {
     return namco163_write(image, NAMCO163_IMAGE_SIZE, arena, ARENA, (uint16_t)addr, (uint8_t)val);
 }
 static uint64_t run(uint64_t clocks) { return namco163_run(image, NAMCO163_IMAGE_SIZE, samples, SAMPLES, clocks); }
+static void set_counter(unsigned counter) {
+    EQUAL(write_at(0x5000, counter & 0xFF), 0);
+    EQUAL(write_at(0x5800, counter >> 8), 0);
+}
 static uint64_t reset(uint64_t kind) { return namco163_reset(image, NAMCO163_IMAGE_SIZE, kind); }
 
 static void keep(void) {
@@ -71,9 +75,12 @@ static void test_sizes(void) {
     EQUAL(namco163_most_samples(1), 1);
     EQUAL(namco163_most_samples(15), 1);
     EQUAL(namco163_most_samples(16), 2);
+    EQUAL(NAMCO163_CLOCK_LIMIT, 29781);
+    EQUAL(NAMCO163_MOST_SAMPLES, 1986);
     EQUAL(namco163_most_samples(NAMCO163_CLOCK_LIMIT), NAMCO163_MOST_SAMPLES);
     CHECK(!strcmp(namco163_refusal_text(0), "accepted") && !strcmp(namco163_refusal_text(12), "no battery is in use"));
     CHECK(!strcmp(namco163_refusal_text(13), "no refusal has this number"));
+    CHECK(!strcmp(namco163_refusal_text(NAMCO163_CLOCKS), "the run is longer than 29781 clocks"));
 }
 
 /* H4, R5, H1: a load does not read the image, zeroes the arena, and writes the image of the new state. */
@@ -125,24 +132,46 @@ static void test_answers(void) {
 }
 
 /* Volume 15 on channel 7 alone, and a wave of zeros: each sample is 3720 * 0.0001, bits 3EBE76C8. */
+static const uint8_t level_bytes[4] = {0x3E, 0xBE, 0x76, 0xC8};
+
+/* Whether the samples lent hold so many of that level and then the bytes A5 that they were filled with. */
+static int made(size_t count) {
+    size_t at = 0;
+    while (at < 4 * count && samples[at] == level_bytes[at % 4]) at++;
+    if (at != 4 * count) return 0;
+    while (at < sizeof samples && samples[at] == 0xA5) at++;
+    return at == sizeof samples;
+}
+
+/* C4, C5: the longest run, and a rise in the run behind it, on its last clock, and on the clock after it. */
 static void test_run(void) {
-    static const uint8_t bytes[4] = {0x3E, 0xBE, 0x76, 0xC8};
-    const float level = namco163_sample(bytes);
+    const float level = namco163_sample(level_bytes);
     uint64_t answer;
-    size_t same = 0;
     CHECK(level > 0.3719f && level < 0.3721f);
     EQUAL(load(19, 1, 32768, 128), 0);
     EQUAL(write_at(0xF800, 0x7F), 0);
     EQUAL(write_at(0x4800, 0x0F), 0);
     EQUAL(write_at(0x5800, 0x80), 0);
     memset(samples, 0xA5, sizeof samples);
-    answer = run(65536);
-    EQUAL(answer, 0x7FFF00111100);
-    CHECK(namco163_samples(answer) == 4369 && namco163_rise(answer) == 32767 && namco163_irq_line(image) == 1);
-    while (same < sizeof samples && samples[same] == bytes[same % 4]) same++;
-    EQUAL(same, 4 * 4369);
-    while (same < sizeof samples && samples[same] == 0xA5) same++;
-    EQUAL(same, sizeof samples);
+    answer = run(NAMCO163_CLOCK_LIMIT);
+    EQUAL(answer, 0x7C100);
+    CHECK(namco163_samples(answer) == 1985 && namco163_rise(answer) == 0 && namco163_irq_line(image) == 0);
+    CHECK(image[0] == 0xF4 && image[1] == 0x55);
+    CHECK(made(1985));
+    memset(samples, 0xA5, sizeof samples);
+    answer = run(2986);
+    EQUAL(answer, 0xBAA0000C700);
+    CHECK(namco163_samples(answer) == 199 && namco163_rise(answer) == 2986 && namco163_irq_line(image) == 1);
+    CHECK(made(199));
+    set_counter(0x8BAA);
+    EQUAL(namco163_irq_line(image), 0);
+    EQUAL(namco163_rise(run(NAMCO163_CLOCK_LIMIT)), 29781);
+    EQUAL(namco163_irq_line(image), 1);
+    set_counter(0x8BA9);
+    EQUAL(namco163_rise(run(NAMCO163_CLOCK_LIMIT)), 0);
+    CHECK(image[0] == 0xFF && image[1] == 0xFE && namco163_irq_line(image) == 0);
+    EQUAL(namco163_rise(run(1)), 1);
+    EQUAL(namco163_irq_line(image), 1);
     EQUAL(write_at(0x5000, 0xFF), 0);
     EQUAL(namco163_irq_line(image), 0);
     keep();
@@ -236,11 +265,16 @@ static void test_refused_calls(void) {
     EQUAL(namco163_write(image, 308, arena, 0, 0, 0), NAMCO163_IMAGE_LENGTH);
     EQUAL(namco163_write(image, 307, arena, ARENA + 1, 0, 0), NAMCO163_ARENA_LENGTH);
     EQUAL(write_at(0, 0), NAMCO163_ADDRESS);
-    EQUAL(namco163_run(image, 0, samples, 0, 65537), NAMCO163_IMAGE_LENGTH);
-    EQUAL(namco163_run(image, 307, samples, 0, 65537), NAMCO163_CLOCKS);
+    EQUAL(namco163_run(image, 0, samples, 0, NAMCO163_CLOCK_LIMIT + 1), NAMCO163_IMAGE_LENGTH);
+    EQUAL(namco163_run(image, 307, samples, 0, NAMCO163_CLOCK_LIMIT + 1), NAMCO163_CLOCKS);
+    EQUAL(run(NAMCO163_CLOCK_LIMIT + 1), NAMCO163_CLOCKS);
+    EQUAL(run(65536), NAMCO163_CLOCKS);
+    EQUAL(namco163_run(image, 307, samples, 0, ((uint64_t)1 << 32) + 5), NAMCO163_CLOCKS);
     EQUAL(run(((uint64_t)1 << 32) + 5), NAMCO163_CLOCKS);
+    EQUAL(run((uint64_t)-1), NAMCO163_CLOCKS);
+    EQUAL(namco163_run(image, 307, samples, 0, NAMCO163_CLOCK_LIMIT), NAMCO163_SAMPLES_LENGTH);
     EQUAL(namco163_run(image, 307, samples, 3, 1), NAMCO163_SAMPLES_LENGTH);
-    EQUAL(namco163_run(image, 307, samples, 4 * 4370 - 1, 65536), NAMCO163_SAMPLES_LENGTH);
+    EQUAL(namco163_run(image, 307, samples, 4 * NAMCO163_MOST_SAMPLES - 1, NAMCO163_CLOCK_LIMIT), NAMCO163_SAMPLES_LENGTH);
     EQUAL(namco163_reset(image, 306, 2), NAMCO163_IMAGE_LENGTH);
     EQUAL(reset(2), NAMCO163_RESET_KIND);
     EQUAL(reset(256), NAMCO163_RESET_KIND);
@@ -248,9 +282,24 @@ static void test_refused_calls(void) {
     memcpy(image_before, image, sizeof image);
     EQUAL(namco163_read(image, 307, arena, 0, 0), NAMCO163_OUT_OF_RANGE);
     EQUAL(namco163_write(image, 307, arena, 0, 0, 0), NAMCO163_OUT_OF_RANGE);
-    EQUAL(run(65537), NAMCO163_OUT_OF_RANGE);
+    EQUAL(run(NAMCO163_CLOCK_LIMIT + 1), NAMCO163_OUT_OF_RANGE);
     EQUAL(reset(2), NAMCO163_OUT_OF_RANGE);
     CHECK(kept());
+}
+
+/* N11: whole groups of four bytes for the samples of the longest run, with the update counter at 0 and at 14. */
+static void test_rooms(void) {
+    EQUAL(load(19, 1, 32768, 128), 0);
+    keep();
+    EQUAL(namco163_run(image, 307, samples, 4 * (NAMCO163_MOST_SAMPLES - 1) - 1, NAMCO163_CLOCK_LIMIT), NAMCO163_SAMPLES_LENGTH);
+    CHECK(kept());
+    EQUAL(namco163_run(image, 307, samples, 4 * (NAMCO163_MOST_SAMPLES - 1), NAMCO163_CLOCK_LIMIT), 0x7C100);
+    EQUAL(load(19, 1, 32768, 128), 0);
+    EQUAL(run(14), 0);
+    keep();
+    EQUAL(namco163_run(image, 307, samples, 4 * NAMCO163_MOST_SAMPLES - 1, NAMCO163_CLOCK_LIMIT), NAMCO163_SAMPLES_LENGTH);
+    CHECK(kept());
+    EQUAL(namco163_run(image, 307, samples, 4 * NAMCO163_MOST_SAMPLES, NAMCO163_CLOCK_LIMIT), 0x7C200);
 }
 
 int main(void) {
@@ -258,6 +307,7 @@ int main(void) {
     test_load();
     test_answers();
     test_run();
+    test_rooms();
     test_reset();
     test_lent_states();
     test_refused_loads();

@@ -29,7 +29,7 @@ fn value(rng: &mut Rng) -> u8 {
 
 fn clocks(rng: &mut Rng) -> u64 {
     match rng.below(32) {
-        0 => rng.pick(&[RUN_LIMIT, RUN_LIMIT, RUN_LIMIT - 1, 40_000]),
+        0 => rng.pick(&[RUN_LIMIT, RUN_LIMIT, RUN_LIMIT - 1, 20_000]),
         1 => rng.between(600, 10_000),
         2..4 => 0,
         4..10 => rng.pick(&[1, 14, 15, 16]),

@@ -213,7 +213,7 @@ fn any_call(rng: &mut Rng) -> HostCall {
         2 if fit => HostCall::Reset(rng.below(2)),
         2 => HostCall::Reset(rng.pick(&[2, 3, 256, 1 << 32, (1 << 32) + 1, 1 << 63, u64::MAX])),
         3 if fit => HostCall::Run(rng.below(100)),
-        3 => HostCall::Run(rng.pick(&[RUN_LIMIT, RUN_LIMIT + 1, 1 << 32, (1 << 32) + 5, u64::MAX])),
+        3 => HostCall::Run(rng.pick(&[RUN_LIMIT, RUN_LIMIT + 1, RUN_LIMIT + 1, 65_536, 1 << 32, (1 << 32) + 5, u64::MAX])),
         4 => HostCall::Read(if fit { draw::address(rng) } else { low_address(rng) }),
         _ => HostCall::Write(if fit { draw::address(rng) } else { low_address(rng) }, rng.byte()),
     }

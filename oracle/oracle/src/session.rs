@@ -18,7 +18,10 @@ use tetanes::{
     memory::{Memory, MemoryLayout, Page},
 };
 
-pub const RUN_LIMIT: u64 = 65_536;
+/// C4: the longest run, as many clocks as a video frame has.
+pub const RUN_LIMIT: u64 = 29_781;
+/// C6: of the longest run.
+pub const MOST_SAMPLES: usize = (14 + RUN_LIMIT as usize) / 15;
 const FIRST_ADDRESS: u16 = 0x4800;
 
 #[derive(Clone)]

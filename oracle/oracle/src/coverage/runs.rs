@@ -2,11 +2,18 @@
 //! Runs: lengths, rooms, rises, updates.
 
 use super::{BOARDS, Counter, Played, View};
-use crate::{session::samples_made, text::Call};
+use crate::{
+    session::{MOST_SAMPLES, RUN_LIMIT, samples_made},
+    text::Call,
+};
+
+/// Lengths of accepted runs, each a class.
+const LENGTHS: [u64; 6] = [0, 1, 14, 15, RUN_LIMIT - 1, RUN_LIMIT];
+/// Lengths that 10 refuses, each a class: one above the limit, and some far above it.
+const TOO_LONG: [u64; 4] = [RUN_LIMIT + 1, 40_000, 65_536, 65_537];
 
 pub fn classes() -> Vec<String> {
     let mut classes: Vec<String> = [
-        "run of 65537 refused by 10",
         "run right in its low 32 bits refused by 10",
         "run refused by 10, without room, too",
         "room exact",
@@ -16,6 +23,8 @@ pub fn classes() -> Vec<String> {
         "room 0 refused by 11",
         "rise on the first of several clocks",
         "rise on the last of several clocks",
+        "rise on the last clock of the longest run",
+        "a run at or one below the limit ends a clock before the rise",
         "rise between",
         "rise on a single clock",
         "rise with the sound disabled",
@@ -25,7 +34,7 @@ pub fn classes() -> Vec<String> {
         "clocks with the sound disabled",
         "an update begun in one run ends in another",
         "clocks on another board with an update begun",
-        "a run of 4370 samples",
+        "a run of 1986 samples",
         "a channel below 7 - c makes an update",
         "a phase is reduced by its length",
         "a mean that is no whole number",
@@ -34,10 +43,11 @@ pub fn classes() -> Vec<String> {
     ]
     .map(String::from)
     .into();
-    classes.extend([0, 1, 14, 15, 65_536].map(|clocks| format!("run of {clocks}")));
+    classes.extend(LENGTHS.map(|clocks| format!("run of {clocks}")));
+    classes.extend(TOO_LONG.map(|clocks| format!("run of {clocks} refused by 10")));
     // An Unknown has no rise: a write to its counter makes it a 163.
     classes.extend(["163", "175", "340"].map(|board| format!("rise on a {board}")));
-    classes.extend(BOARDS.map(|board| format!("run of 65536 on a {board}")));
+    classes.extend(BOARDS.map(|board| format!("run of {RUN_LIMIT} on a {board}")));
     classes.extend((0..8).map(|c| format!("sample other than 0 with c = {c}")));
     classes.extend((0..8).map(|channel| format!("update of channel {channel}")));
     classes
@@ -46,8 +56,8 @@ pub fn classes() -> Vec<String> {
 pub fn observe(played: &Played, counter: &mut Counter) {
     let (Call::Run { clocks, room }, Some(before), Some(after)) = (played.call, played.before, played.after) else { return };
     if played.refused(10) {
-        counter.hit_if(*clocks == 65_537, "run of 65537 refused by 10");
-        counter.hit_if(*clocks > 65_537 && *clocks as u32 <= 65_536, "run right in its low 32 bits refused by 10");
+        counter.hit_if(TOO_LONG.contains(clocks), format!("run of {clocks} refused by 10"));
+        counter.hit_if(u64::from(*clocks as u32) <= RUN_LIMIT, "run right in its low 32 bits refused by 10");
         counter.hit_if(*room == 0, "run refused by 10, without room, too");
     } else if played.refused(11) {
         let made = samples_made(&before.chip, *clocks);
@@ -67,9 +77,9 @@ fn number(played: &Played, place: usize) -> u64 {
 
 fn lengths(played: &Played, clocks: u64, room: u64, before: &View, counter: &mut Counter) {
     let made = number(played, 0);
-    counter.hit_if([0, 1, 14, 15, 65_536].contains(&clocks), format!("run of {clocks}"));
-    counter.hit_if(clocks == 65_536, format!("run of 65536 on a {}", before.board()));
-    counter.hit_if(made == 4370, "a run of 4370 samples");
+    counter.hit_if(LENGTHS.contains(&clocks), format!("run of {clocks}"));
+    counter.hit_if(clocks == RUN_LIMIT, format!("run of {RUN_LIMIT} on a {}", before.board()));
+    counter.hit_if(made == MOST_SAMPLES as u64, "a run of 1986 samples");
     counter.hit_if(made > 0 && room == made, "room exact");
     counter.hit_if(made > 0 && room > made, "room larger");
     counter.hit_if(clocks > 0 && made == 0 && room == 0, "room 0 and no sample");
@@ -87,11 +97,16 @@ fn rises(played: &Played, clocks: u64, before: &View, after: &View, counter: &mu
             _ => "rise between",
         });
         counter.hit_if(before.board() == "163" && before.chip.audio.disabled, "rise with the sound disabled");
+        counter.hit_if(rise == RUN_LIMIT, "rise on the last clock of the longest run");
     } else if clocks > 0 {
         let start = before.chip.regs.irq_counter;
         counter.hit_if(start != after.chip.regs.irq_counter, "counter moves without a rise");
         counter.hit_if(start > 0 && start < 0x8000, "counter stopped below 8000");
         counter.hit_if(start == 0xFFFF, "counter stopped at FFFF");
+        counter.hit_if(
+            clocks >= RUN_LIMIT - 1 && after.chip.regs.irq_counter == 0xFFFE,
+            "a run at or one below the limit ends a clock before the rise",
+        );
     }
 }
 

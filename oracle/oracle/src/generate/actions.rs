@@ -219,7 +219,7 @@ fn work_ram(g: &mut Generator) {
 
 /// A counter that is some clocks from its end, and runs that end before, on, or after the rise.
 fn counter(g: &mut Generator) {
-    let away: u64 = g.rng.pick(&[0, 1, 1, 2, 3, 14, 15, 16, 40, 200, 1_000]);
+    let away: u64 = g.rng.pick(&[0, 1, 1, 2, 3, 14, 15, 16, 40, 200, 1_000, RUN_LIMIT]);
     let counter: u16 = match g.rng.below(8) {
         0 => g.rng.number() as u16,
         1 => 0x7FFE,
@@ -306,7 +306,7 @@ fn port(g: &mut Generator) {
     }
 }
 
-/// Runs of every length. The longest are rare on a 163: such an answer may have 4370 samples.
+/// Runs of every length. The longest are rare on a 163: such an answer may have 1986 samples.
 fn run(g: &mut Generator) {
     if g.loaded().chip.board != Board::Namco163 && g.rng.once_in(8) {
         return longest_run(g);
@@ -319,8 +319,8 @@ fn run(g: &mut Generator) {
         18..26 => 15,
         26..52 => g.rng.between(2, 100),
         52..58 => g.rng.between(100, 600),
-        58..61 => RUN_LIMIT + 1,
-        61 => g.rng.pick(&[(1 << 32) + 5, u64::MAX]),
+        58..61 => g.rng.pick(&[RUN_LIMIT + 1, RUN_LIMIT + 1, RUN_LIMIT + 1, 40_000, 65_536, 65_537]),
+        61 => g.rng.pick(&[(1 << 32) + 5, (1 << 32) + 5, (1 << 32) + RUN_LIMIT, 1 << 20, u64::MAX]),
         _ => g.rng.between(600, 2_000),
     };
     g.run_clocks(clocks);
@@ -332,7 +332,7 @@ fn longest_run(g: &mut Generator) {
         let short = 14 - u64::from(g.loaded().chip.audio.update_counter);
         g.say(Call::Run { clocks: short, room: 0 });
     }
-    let clocks = g.rng.pick(&[RUN_LIMIT, RUN_LIMIT, RUN_LIMIT, RUN_LIMIT - 1, 40_000]);
+    let clocks = g.rng.pick(&[RUN_LIMIT, RUN_LIMIT, RUN_LIMIT, RUN_LIMIT - 1, 20_000]);
     g.run_clocks(clocks);
 }
 

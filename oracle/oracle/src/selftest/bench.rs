@@ -4,7 +4,7 @@
 use oracle::{
     layout::{Load, PAGE},
     refusal::Refusal,
-    session::{Changed, Ran, Session, Written, entry},
+    session::{Changed, MOST_SAMPLES, RUN_LIMIT, Ran, Session, Written, entry},
 };
 use std::ops::Range;
 use tetanes::memory::Page;
@@ -60,6 +60,7 @@ pub trait Handy {
     fn puts(&mut self, writes: &[(u16, u8)]);
     fn get(&mut self, addr: u16) -> u8;
     fn clocks(&mut self, clocks: u64) -> Ran;
+    fn clocks_in_runs(&mut self, clocks: u64) -> Ran;
     fn samples(&mut self, clocks: u64) -> Vec<u32>;
     fn set_counter(&mut self, counter: u16, pending: bool);
     fn prg(&self, entries: Range<usize>) -> Vec<String>;
@@ -84,12 +85,28 @@ impl Handy for Session {
     }
 
     fn clocks(&mut self, clocks: u64) -> Ran {
-        accepted(self.run(clocks, &mut [0.0; 4370]))
+        accepted(self.run(clocks, &mut [0.0; MOST_SAMPLES]))
+    }
+
+    /// Any number of clocks, in runs as long as they may be (C4); a rise counts from the first one's start.
+    fn clocks_in_runs(&mut self, clocks: u64) -> Ran {
+        let mut all = Ran { made: 0, rise: 0 };
+        let mut done = 0;
+        while done < clocks {
+            let piece = (clocks - done).min(RUN_LIMIT);
+            let ran = self.clocks(piece);
+            all.made += ran.made;
+            if ran.rise > 0 {
+                all.rise = done + ran.rise;
+            }
+            done += piece;
+        }
+        all
     }
 
     /// The bits of each sample that a run makes.
     fn samples(&mut self, clocks: u64) -> Vec<u32> {
-        let mut samples = [0.0; 4370];
+        let mut samples = [0.0; MOST_SAMPLES];
         let ran = accepted(self.run(clocks, &mut samples));
         samples[..ran.made as usize].iter().map(|sample| sample.to_bits()).collect()
     }

@@ -94,7 +94,7 @@ fn malformed(t: &mut Checks) {
 }
 
 /// A short session, with answers in the forms of README.md's table of lines.
-const SESSION: [(&str, &str); 27] = [
+const SESSION: [(&str, &str); 29] = [
     ("sram", NO_CARTRIDGE),
     ("load 20 0 0 1 32768 8192 128 8192 0 2048", "refused 4"),
     ("run 0 0", NO_CARTRIDGE),
@@ -116,7 +116,9 @@ const SESSION: [(&str, &str); 27] = [
     ("region-write ciram 2047 9", "ok"),
     ("run 30 2", "ok 2 0 $00000000 $00000000"),
     ("run 15 0", "refused 11"),
-    ("run 65537 0", "refused 10"),
+    ("run 29781 1984", "refused 11"),
+    ("run 29782 0", "refused 10"),
+    ("run 65536 8192", "refused 10"),
     ("reset soft", "ok"),
     ("reset hard", "ok"),
     ("sync-battery", "ok"),

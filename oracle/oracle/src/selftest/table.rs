@@ -46,11 +46,11 @@ fn chr(t: &mut Checks) {
     t.eq("CHR 0", written(P, &[(0x8000, 0xDF)]).chr(0..1), pages("40"));
 }
 
-/// Counter, line and answer after a run from a lent counter with the line clear.
+/// Counter, line and the clock of the rise after so many clocks from a lent counter with the line clear.
 fn after(counter: u16, clocks: u64) -> (u16, bool, u64) {
     let mut p = loaded(P);
     p.set_counter(counter, false);
-    let Ran { rise, .. } = p.clocks(clocks);
+    let Ran { rise, .. } = p.clocks_in_runs(clocks);
     (p.chip.regs.irq_counter, p.chip.regs.irq_pending, rise)
 }
 
@@ -61,6 +61,11 @@ fn pends(t: &mut Checks) {
 fn longest(t: &mut Checks) {
     t.eq("32,766 clocks", after(0x8000, 32_766), (0xFFFE, false, 0));
     t.eq("32,767 clocks", after(0x8000, 32_767), (0xFFFF, true, 32_767));
+    let mut p = loaded(P);
+    p.set_counter(0x8000, false);
+    let early = (0..32_766).filter(|_| p.clocks(1).rise > 0).count();
+    t.eq("32,766 single clocks", (early, p.chip.regs.irq_counter, p.chip.regs.irq_pending), (0, 0xFFFE, false));
+    t.eq("and one more", (p.clocks(1).rise, p.chip.regs.irq_counter, p.chip.regs.irq_pending), (1, 0xFFFF, true));
 }
 
 fn still(t: &mut Checks) {

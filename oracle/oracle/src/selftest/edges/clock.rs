@@ -7,12 +7,14 @@ use crate::selftest::{
 };
 use oracle::{
     layout::Region,
-    session::{Ran, Session},
+    session::{MOST_SAMPLES, RUN_LIMIT, Ran, Session},
 };
 use tetanes::m019_namco163::Board;
 
 pub fn check(t: &mut Checks) {
+    limit(t);
     rises(t);
+    rises_of_longest_runs(t);
     counter_writes(t);
     counter_sentence(t);
     runs(t);
@@ -20,6 +22,11 @@ pub fn check(t: &mut Checks) {
     resets(t);
     stale_flag_after_reset(t);
     battery(t);
+}
+
+/// C4, C6: the longest run is a video frame, and what it makes at most.
+fn limit(t: &mut Checks) {
+    t.eq("clocks and samples", (RUN_LIMIT, MOST_SAMPLES), (29_781, 1986));
 }
 
 /// Counter and line lent, clocks, then rise, counter and line.
@@ -30,6 +37,13 @@ const RISES: &[Rise] = &[
     (0xFFFE, false, 1, (1, 0xFFFF, true)),
     (0x8000, false, 32_766, (0, 0xFFFE, false)),
     (0x8000, false, 32_767, (32_767, 0xFFFF, true)),
+    (0x8000, false, 29_781, (0, 0xF455, false)),
+    (0x8BAA, false, 29_781, (29_781, 0xFFFF, true)),
+    (0x8BA9, false, 29_781, (0, 0xFFFE, false)),
+    (0xFFFD, false, 29_781, (2, 0xFFFF, true)),
+    (0x7FFE, false, 29_781, (0, 0x7FFE, false)),
+    (0xFFFF, false, 29_781, (0, 0xFFFF, false)),
+    (0x0000, false, 29_781, (0, 0x0000, false)),
     (0x8000, false, 65_536, (32_767, 0xFFFF, true)),
     (0xFFFD, false, 65_536, (2, 0xFFFF, true)),
     (0x7FFE, false, 65_536, (0, 0x7FFE, false)),
@@ -43,14 +57,33 @@ fn rises(t: &mut Checks) {
         for load in [P, U, N175, N340] {
             let mut cart = loaded(load);
             cart.set_counter(*counter, *pending);
-            let rise = cart.clocks(*clocks).rise;
+            let rise = cart.clocks_in_runs(*clocks).rise;
             let regs = &cart.chip.regs;
             t.eq(&format!("{counter:04X}, {clocks} clocks"), (rise, regs.irq_counter, regs.irq_pending), *expected);
         }
     }
     let mut cart = loaded(N340);
     cart.set_counter(0x8134, false);
-    t.eq("340 with 8134", cart.clocks(40_000), Ran { made: 0, rise: 32_459 });
+    t.eq("340 with 8134", cart.clocks_in_runs(40_000), Ran { made: 0, rise: 32_459 });
+}
+
+/// C4, C5: what the longest run answers. A counter of 8000 ends in the run behind it; one of 8BAA on its last clock, one of 8BA9 on the
+/// clock after it.
+fn rises_of_longest_runs(t: &mut Checks) {
+    let with = |counter| {
+        let mut p = loaded(P);
+        p.set_counter(counter, false);
+        p
+    };
+    let counter = |p: &Session| (p.chip.regs.irq_counter, p.chip.regs.irq_pending);
+    let mut p = with(0x8000);
+    t.eq("8000, run 29,781", (p.clocks(29_781), counter(&p)), (Ran { made: 1985, rise: 0 }, (0xF455, false)));
+    t.eq("then run 2,986", (p.clocks(2_986), counter(&p)), (Ran { made: 199, rise: 2_986 }, (0xFFFF, true)));
+    let mut p = with(0x8BAA);
+    t.eq("8BAA, run 29,781", (p.clocks(29_781), counter(&p)), (Ran { made: 1985, rise: 29_781 }, (0xFFFF, true)));
+    let mut p = with(0x8BA9);
+    t.eq("8BA9, run 29,781", (p.clocks(29_781), counter(&p)), (Ran { made: 1985, rise: 0 }, (0xFFFE, false)));
+    t.eq("then one clock", (p.clocks(1), counter(&p)), (Ran { made: 0, rise: 1 }, (0xFFFF, true)));
 }
 
 /// C3: a write to either half clears the line; and what the counter does from there.
@@ -63,15 +96,15 @@ fn counter_writes(t: &mut Checks) {
     let mut p = pending();
     p.put(0x5000, 0x00);
     t.eq("5000=00", (p.chip.regs.irq_counter, p.chip.regs.irq_pending), (0xFF00, false));
-    t.eq("rise after 255", p.clocks(65_536).rise, 255);
+    t.eq("rise after 255", p.clocks_in_runs(65_536).rise, 255);
     let mut p = pending();
     p.put(0x5000, 0xFF);
     t.eq("5000=FF", (p.chip.regs.irq_counter, p.chip.regs.irq_pending), (0xFFFF, false));
-    t.eq("no rise ever", (p.clocks(65_536).rise, p.chip.regs.irq_pending), (0, false));
+    t.eq("no rise ever", (p.clocks_in_runs(65_536).rise, p.chip.regs.irq_pending), (0, false));
     let mut p = pending();
     p.put(0x5800, 0x7F);
     t.eq("5800=7F", (p.chip.regs.irq_counter, p.chip.regs.irq_pending), (0x7FFF, false));
-    t.eq("stopped", (p.clocks(65_536).rise, p.chip.regs.irq_counter), (0, 0x7FFF));
+    t.eq("stopped", (p.clocks_in_runs(65_536).rise, p.chip.regs.irq_counter), (0, 0x7FFF));
 }
 
 /// D3.2: cut runs and other calls do not move the rise.
@@ -97,16 +130,16 @@ fn runs(t: &mut Checks) {
     let before = p.whole();
     t.eq("n = 0", (p.clocks(0), p.whole()), (Ran { made: 0, rise: 0 }, before));
     for u in 0..15 {
-        for clocks in [0, 1, 14 - u, 15 - u, 16, 29, 30, 65_535, 65_536] {
+        for clocks in [0, 1, 14 - u, 15 - u, 16, 29, 30, 29_780, 29_781] {
             let mut p = loaded(P);
             p.chip.audio.update_counter = u as u8;
             t.eq("floor((u + n) / 15)", p.clocks(clocks).made, (u + clocks) / 15);
         }
     }
     let mut d = written(D, &[(0xE000, 0x80)]);
-    t.eq("not a 163", d.clocks(65_536).made, 0);
+    t.eq("not a 163", d.clocks(29_781).made, 0);
     let mut p = written(P, &[(0xE000, 0x40)]);
-    t.eq("disabled", p.clocks(65_536).made, 0);
+    t.eq("disabled", p.clocks(29_781).made, 0);
 }
 
 fn with_update_counter(update_counter: u8) -> Session {
@@ -117,11 +150,19 @@ fn with_update_counter(update_counter: u8) -> Session {
 
 /// N11: room for the samples and for one less; C4: places behind the samples keep what they held.
 fn rooms(t: &mut Checks) {
-    for (u, room, made) in [(0, 4369, Ok(4369)), (14, 4370, Ok(4370)), (14, 4369, Err(11)), (0, 4368, Err(11))] {
+    for (u, room, made) in [
+        (0, 1984, Err(11)),
+        (0, 1985, Ok(1985)),
+        (8, 1985, Ok(1985)),
+        (9, 1985, Err(11)),
+        (9, 1986, Ok(1986)),
+        (14, 1985, Err(11)),
+        (14, 1986, Ok(1986)),
+    ] {
         let mut p = with_update_counter(u);
         let before = p.whole();
         let mut samples = vec![7.0; room];
-        let answer = number(p.run(65_536, &mut samples)).map(|ran| ran.made);
+        let answer = number(p.run(29_781, &mut samples)).map(|ran| ran.made);
         t.eq(&format!("u = {u}, room {room}"), answer, made);
         if made.is_err() {
             t.eq("a refused run alters nothing", (p.whole(), samples), (before, vec![7.0; room]));

@@ -26,7 +26,14 @@ fn words(t: &mut Checks) {
     t.eq("D: E000=80", write_word(loaded(D).put(0xE000, 0x80)), 0xFFFF_0000);
     let mut p = loaded(P);
     p.set_counter(0x8000, false);
-    t.eq("fresh P with counter 8000, run 65,536", run_word(p.clocks(65_536)), 0x7FFF_0011_1100);
+    t.eq("fresh P with counter 8000, run 29,781", run_word(p.clocks(29_781)), 0x7_C100);
+    t.eq("then run 2,986", run_word(p.clocks(2_986)), 0xBAA_0000_C700);
+    let mut p = loaded(P);
+    p.set_counter(0x8BAA, false);
+    t.eq("fresh P with counter 8BAA, run 29,781", run_word(p.clocks(29_781)), 0x7455_0007_C100);
+    let mut p = loaded(P);
+    p.set_counter(0x8BA9, false);
+    t.eq("fresh P with counter 8BA9, run 29,781", run_word(p.clocks(29_781)), 0x7_C100);
     let mut p = loaded(P);
     p.set_counter(0xA55A, false);
     let mut host = Host::new(p);
@@ -60,8 +67,10 @@ fn refusals(t: &mut Checks) {
     for (call, answers) in [
         (HostCall::Read(0x47FF), [1, 2, 7, 8]),
         (HostCall::Write(0x47FF, 1), [1, 2, 7, 8]),
-        (HostCall::Run(65_537), [1, 2, 10, 10]),
-        (HostCall::Run(65_536), [1, 2, 11, 11]),
+        (HostCall::Run((1 << 32) + 5), [1, 2, 10, 10]),
+        (HostCall::Run(65_536), [1, 2, 10, 10]),
+        (HostCall::Run(29_782), [1, 2, 10, 10]),
+        (HostCall::Run(29_781), [1, 2, 11, 11]),
         (HostCall::Reset(2), [1, 2, 3, 3]),
     ] {
         for (step, (image, answer)) in images.into_iter().zip(answers).enumerate() {

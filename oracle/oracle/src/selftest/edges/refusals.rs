@@ -73,8 +73,8 @@ const CALLS: &[(&str, Call, &[u8])] = &[
     ("region peek", |s| refusal(s.region_peek(Region::PrgRom, 0)), &[2, 7]),
     ("region write", |s| refusal(s.region_write(Region::PrgRom, 0, 1)), &[2, 7]),
     ("sram", |s| refusal(s.sram()), &[2]),
-    ("run", |s| refusal(s.run(65_537, &mut [])), &[2, 10]),
-    ("run without room", |s| refusal(s.run(65_536, &mut [])), &[2, 11]),
+    ("run", |s| refusal(s.run(29_782, &mut [])), &[2, 10]),
+    ("run without room", |s| refusal(s.run(29_781, &mut [])), &[2, 11]),
     ("reset", |s| refusal(s.reset(2)), &[2, 3]),
     ("soft reset", |s| refusal(s.reset(0)), &[2]),
     ("sync", |s| refusal(s.sync_battery()), &[2, 7, 12]),
@@ -138,10 +138,13 @@ fn edges_of_conditions(t: &mut Checks) {
         ("write 4800", &p, |s| refusal(s.write(0x4800, 1)), 0),
         ("fill of 8192", &p, |s| refusal(s.fill(Region::PrgRam, &[1; 8192])), 0),
         ("fill of 8193", &p, |s| refusal(s.fill(Region::PrgRam, &[1; 8193])), 9),
-        ("run 65,536", &p, |s| refusal(s.run(65_536, &mut [0.0; 4369])), 0),
+        ("run 29,780", &p, |s| refusal(s.run(29_780, &mut [0.0; 1985])), 0),
+        ("run 29,781", &p, |s| refusal(s.run(29_781, &mut [0.0; 1985])), 0),
+        ("run 29,782", &p, |s| refusal(s.run(29_782, &mut [0.0; 5000])), 10),
+        ("29,782 clocks and no room", &p, |s| refusal(s.run(29_782, &mut [])), 10),
+        ("run 65,536", &p, |s| refusal(s.run(65_536, &mut [0.0; 5000])), 10),
         ("run 65,537", &p, |s| refusal(s.run(65_537, &mut [0.0; 5000])), 10),
-        ("65,537 clocks and no room", &p, |s| refusal(s.run(65_537, &mut [])), 10),
-        ("room 4368", &p, |s| refusal(s.run(65_536, &mut [0.0; 4368])), 11),
+        ("room 1984", &p, |s| refusal(s.run(29_781, &mut [0.0; 1984])), 11),
         ("kind 0", &p, |s| refusal(s.reset(0)), 0),
         ("kind 1", &p, |s| refusal(s.reset(1)), 0),
         ("kind 2", &p, |s| refusal(s.reset(2)), 3),
@@ -167,7 +170,9 @@ fn wide_numbers(t: &mut Checks) {
     ] {
         t.eq("a size above 2^32", refusal(try_load(load)), 5);
     }
-    t.eq("2^32 + 5 clocks", refusal(loaded(P).run(wide + 5, &mut [0.0; 5])), 10);
+    for clocks in [wide, wide + 5, wide + 29_781, u64::MAX] {
+        t.eq("clocks from 2^32 on", refusal(loaded(P).run(clocks, &mut [0.0; 1986])), 10);
+    }
     t.eq("kind 256", refusal(loaded(P).reset(256)), 3);
     t.eq("kind 2^32", refusal(loaded(P).reset(wide)), 3);
 }
