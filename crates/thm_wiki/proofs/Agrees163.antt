@@ -3,11 +3,10 @@
 -- far as it stays a 163: E000..E7FF is not written with bit 7 set. A list has no reset, which the wiki does not define.
 use Prim.Native.Nat.{ℕ, _+_, _^_, _<_}
 use mathlib.Core.Path.{_≡_, refl, sym, ap, subst, _∙_}
-use mathlib.Core.Bool.{Bool, true, false, cond, not, _&&_, _||_}
+use mathlib.Core.Bool.{Bool, true, false, not, _&&_, _||_}
 use mathlib.Core.List.{List}
 use native.Mathlib.Omega.{arith}
 use borrow.Author.Tests.{le-leb, lt-ltb}
-use lib.Dec.{eqb}
 use lib.Ieee.{Float}
 use lib.IntN.{pos}
 use lib.ListN.{getD}
@@ -34,8 +33,8 @@ use Rattle.thm_machine.proofs.Start.{load-starts}
 use Rattle.thm_range.proofs.Calls.{load-fits}
 use Rattle.thm_range.proofs.Lists.{always-fit}
 use Rattle.thm_wiki.specs.Registers.{wikiBit, wikiE800, wikiShows}
-use Rattle.thm_wiki.specs.Machine.{Wiki, cycle}
-use Rattle.thm_wiki.specs.Notes.{Notes, Noted, Steady, inside, noteUpdate, note, start}
+use Rattle.thm_wiki.specs.Machine.{cycle}
+use Rattle.thm_wiki.specs.Notes.{Noted, Steady, inside, note, start}
 use Rattle.thm_wiki.specs.Shown.{Mapped, slotShows, entryOf, prgEntry, ramEntry}
 use Rattle.thm_wiki.specs.Lists.{beside, Plain}
 use Rattle.thm_wiki.specs.Agrees.{Agrees163}
@@ -44,6 +43,7 @@ use Rattle.thm_wiki.proofs.Registers.{selects-same, selects-only}
 use Rattle.thm_wiki.proofs.Tests.{or-left, or-right}
 use Rattle.thm_wiki.proofs.Counter.{counter-agrees}
 use Rattle.thm_wiki.proofs.Port.{port-byte}
+use Rattle.thm_wiki.proofs.Notes.{cycle-notes}
 use Rattle.thm_wiki.proofs.Shown.Steps.{firm-board, read-board, clock-board, write-mapped, read-mapped, clock-mapped, audio-mapped}
 use Rattle.thm_wiki.proofs.Shown.Steps.{load-mapped}
 use Rattle.thm_wiki.proofs.Stands.{Stands, stands-fresh, write-stands, read-stands, cycle-stands, restore-stands}
@@ -74,15 +74,6 @@ firm-by true n a v u s b e =
     let z = or-left (inside 0xE000 0xE800 a && wikiBit 7 v) u e in
     rw (le-leb 0xE000 a l, lt-ltb a 0xE800 h) at z)
 
-turned-kept : (w : Wiki) (t : Notes) → note w t cycle .turned ≡ t .turned
-unfolding note
-turned-kept w t = go (w .sound .silent) (eqb (w .sound .timer + 1) 15)
-  where
-    go : (y z : Bool) → cond y t (cond z (noteUpdate (w .sound) t) t) .turned ≡ t .turned
-    go true z = refl
-    go false true = refl
-    go false false = refl
-
 kept : (d : Bool) → Kept (As163 d)
 unfolding note writeRegister stateClock
 kept d =
@@ -103,7 +94,7 @@ kept d =
             mapped = read-mapped (s .chip) a (s .memory) (g .mapped);
           };
       cycle = λ x s y q e.
-          let g = q (ap (λ (t : Bool). d && t) (sym (turned-kept (x .machine) (x .notes))) ∙ e) in
+          let g = q (ap (λ (t : Bool). d && t) (sym (cycle-notes (x .machine) (x .notes) .turned)) ∙ e) in
           record {
             detects = clock-board (s .chip) .1 ∙ g .detects;
             stands = cycle-stands x (s .chip) (y .typed .chip) (y .range .chip) (g .stands);

@@ -21,7 +21,7 @@ use Rattle.board_chip.specs.declared.namco163.Board.{Board}
 use Rattle.board_chip.specs.declared.namco163.Board.the-variants.{Namco175, Namco340}
 use Rattle.board_chip.specs.Namco163.{is163}
 use Rattle.board_chip.specs.Detection.{prgRamReadable, prgRamWritable}
-use Rattle.board_chip.specs.Load.{mirroringAtLoad}
+use Rattle.board_chip.specs.Load.{boardAtLoad, detectingAtLoad, mirroringAtLoad}
 use Rattle.board_registers.specs.Writes.{writeChip, remaps}
 use Rattle.board_state.specs.declared.State.{State}
 use Rattle.board_state.specs.State.{Known}
@@ -47,7 +47,7 @@ use Rattle.thm_wiki.proofs.Ranges.{firm-settled}
 use Rattle.thm_wiki.proofs.Counter.{counter-agrees}
 use Rattle.thm_wiki.proofs.Port.{port-byte}
 use Rattle.thm_wiki.proofs.Shown.Steps.{write-mapped, read-mapped, clock-mapped, load-mapped}
-use Rattle.thm_wiki.proofs.Stands210.{Stands210, stands-175, stands-340, write-stands, read-stands, cycle-stands}
+use Rattle.thm_wiki.proofs.Stands210.{Stands210, fresh-stands, write-stands, read-stands, cycle-stands}
 use Rattle.thm_wiki.proofs.Lists.{Kept, along, plain-typed}
 
 -- L5: no battery byte is used, and no write changes that
@@ -140,50 +140,58 @@ fresh-at l sub P m e p =
     (subst (λ (k : ℕ). P (freshState k (l .submapper) (l .flags) (l .known) (l .sizes))) (sym m)
     (subst (λ (k : ℕ). P (freshState 210 k (l .flags) (l .known) (l .sizes))) (sym e) p))
 
+-- what stands after a list of calls
+record Reached (b : Board) (other : is163 b ≡ false) (l : Loaded) (x : Noted) (s : State) : Type 0 where
+  known : Known s
+  good : Good b (mirroringAtLoad (l .flags)) other x s
+
+reached : (b : Board) (other : is163 b ≡ false) (sub : ℕ) (l : Loaded) → sub < 256 → l .mapper ≡ 210 → l .submapper ≡ sub
+    → boardAtLoad 210 sub ≡ b → detectingAtLoad 210 sub (l .known) ≡ false → (calls : List (Call Float Other)) → AllTyped Plain calls
+    → Reached b other l (beside calls (loaded l) start) (observed board calls (loaded l) .state .state)
+unfolding freshState
+reached b other sub l small m e is quiet calls t =
+    let k = mirroringAtLoad (l .flags) in
+    let byte : l .submapper < 256 = omega (arith, e, small) in
+    let first : Good b k other start (loaded l .state) =
+    fresh-at l sub (Good b k other start) m e
+    (record {
+      stands = fresh-stands b k other sub (l .flags) (l .known) is quiet refl;
+      mapped = load-mapped 210 sub (l .flags) (l .known) (l .sizes);
+      used = fresh-used sub (l .flags) (l .known) (l .sizes);
+    }) in
+    record {
+      known = always-fit l byte calls (plain-typed calls t) .known;
+      good = along (Good b k other) (kept b k other) calls (startAt (loaded l)) start t (load-fits l byte) first;
+    }
+
 pub agrees-175 : (l : Loaded) → l .mapper ≡ 210 → l .submapper ≡ 1 → (calls : List (Call Float Other)) → AllTyped Plain calls
     → Agrees175 (mirroringAtLoad (l .flags)) (beside calls (loaded l) start) (observed board calls (loaded l) .state .state)
-unfolding freshState
+unfolding boardAtLoad detectingAtLoad
 agrees-175 l m e calls t =
     let k = mirroringAtLoad (l .flags) in
-    let sub : l .submapper < 256 = omega (arith, e) in
     let x = beside calls (loaded l) start in
     let s = observed board calls (loaded l) .state .state in
-    let y = always-fit l sub calls (plain-typed calls t) .known in
-    let first : Good Namco175 k refl start (loaded l .state) =
-    fresh-at l 1 (Good Namco175 k refl start) m e
-    (record {
-      stands = stands-175 (l .flags) (l .known);
-      mapped = load-mapped 210 1 (l .flags) (l .known) (l .sizes);
-      used = fresh-used 1 (l .flags) (l .known) (l .sizes);
-    }) in
-    let g = along (Good Namco175 k refl) (kept Namco175 k refl) calls (startAt (loaded l)) start t (load-fits l sub) first in
+    let r = reached Namco175 refl 1 l (omega arith) m e refl refl calls t in
+    let g = r .good in
     record {
-      both = both Namco175 k refl x s y g;
-      wired = nametables Namco175 k refl x s y g k (g .stands .wired refl);
+      both = both Namco175 k refl x s (r .known) g;
+      wired = nametables Namco175 k refl x s (r .known) g k (g .stands .wired refl);
       ram = λ i h.
-          work-ram Namco175 k refl x s y g i h ∙ ap (λ (w : Bool). ramEntry (s .memory) true w i) (g .stands .enabled refl);
+          work-ram Namco175 k refl x s (r .known) g i h
+          ∙ ap (λ (w : Bool). ramEntry (s .memory) true w i) (g .stands .enabled refl);
       gate = λ p. ap (wikiBit 0) (g .stands .gate p);
     }
 
 pub agrees-340 : (l : Loaded) → l .mapper ≡ 210 → l .submapper ≡ 2 → (calls : List (Call Float Other)) → AllTyped Plain calls
     → Agrees340 (mirroringAtLoad (l .flags)) (beside calls (loaded l) start) (observed board calls (loaded l) .state .state)
-unfolding freshState
+unfolding boardAtLoad detectingAtLoad
 agrees-340 l m e calls t =
     let k = mirroringAtLoad (l .flags) in
-    let sub : l .submapper < 256 = omega (arith, e) in
     let x = beside calls (loaded l) start in
     let s = observed board calls (loaded l) .state .state in
-    let y = always-fit l sub calls (plain-typed calls t) .known in
-    let first : Good Namco340 k refl start (loaded l .state) =
-    fresh-at l 2 (Good Namco340 k refl start) m e
-    (record {
-      stands = stands-340 (l .flags) (l .known);
-      mapped = load-mapped 210 2 (l .flags) (l .known) (l .sizes);
-      used = fresh-used 2 (l .flags) (l .known) (l .sizes);
-    }) in
-    let g = along (Good Namco340 k refl) (kept Namco340 k refl) calls (startAt (loaded l)) start t (load-fits l sub) first in
+    let r = reached Namco340 refl 2 l (omega arith) m e refl refl calls t in
     record {
-      both = both Namco340 k refl x s y g;
-      selected = nametables Namco340 k refl x s y g (selectedBy k x) (g .stands .selected refl);
-      ram = work-ram Namco340 k refl x s y g;
+      both = both Namco340 k refl x s (r .known) (r .good);
+      selected = nametables Namco340 k refl x s (r .known) (r .good) (selectedBy k x) (r .good .stands .selected refl);
+      ram = work-ram Namco340 k refl x s (r .known) (r .good);
     }

@@ -7,6 +7,7 @@ pub mod Counter
 pub mod Channel
 pub mod Port
 pub mod Sound
+pub mod Notes
 pub mod Shown
 pub mod Stands
 pub mod Stands210

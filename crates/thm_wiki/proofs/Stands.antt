@@ -1,11 +1,11 @@
 -- A 163 beside the wiki's machine: what every step keeps, registers, counter and sound at once. Assumes nothing.
-use Prim.Native.Nat.{ℕ, _+_, _-_, _/_, _%_, _≤_, _<_}
+use Prim.Native.Nat.{ℕ, _-_, _/_, _%_, _≤_, _<_}
 use mathlib.Core.Path.{_≡_, refl, sym, ap, _∙_}
 use mathlib.Core.Bool.{Bool, true, false, cond, not, _||_}
 use mathlib.Core.List.{List}
 use mathlib.Core.Logic.{_⊎_, ⊎-elim}
 use native.Mathlib.Omega.{arith}
-use lib.Dec.{eqb, ltb}
+use lib.Dec.{ltb}
 use lib.Ieee.{Float}
 use lib.ListN.{length, set}
 use lib.Seq.{getD-set-same, getD-set-other}
@@ -28,8 +28,8 @@ use Rattle.thm_wiki.specs.Registers.{wikiBit, wikiWrite}
 use Rattle.thm_wiki.specs.Counter.{WikiIrq, wikiWriteLow, wikiWriteHigh, wikiCycle}
 use Rattle.thm_wiki.specs.Sound.{WikiSound}
 use Rattle.thm_wiki.specs.Port.{wikiAddress, wikiAuto, soundWrite, soundRead, withRam, wikiMoved}
-use Rattle.thm_wiki.specs.Machine.{Wiki, write, read, cycle, restore, step}
-use Rattle.thm_wiki.specs.Notes.{Notes, Noted, noteUpdate, note, next, start, samePhases}
+use Rattle.thm_wiki.specs.Machine.{write, read, cycle, restore, step}
+use Rattle.thm_wiki.specs.Notes.{Noted, note, next, start, samePhases}
 use Rattle.thm_wiki.specs.Shown.{irqOf}
 use Rattle.thm_wiki.proofs.Ranges.{taken, Firm, by-firm}
 use Rattle.thm_wiki.proofs.Registers.{RegsBeside, regs-fresh, regs-below, regs-window, regs-upper, pages-set, pages-past}
@@ -39,6 +39,7 @@ use Rattle.thm_wiki.proofs.Port.{sound-silent, sound-pages, sound-port,
 use Rattle.thm_wiki.proofs.Sound.{SoundBeside, sound-fresh, changed-kept, moved-kept, ram-kept, store-kept, port-kept, silent-kept}
 use Rattle.thm_wiki.proofs.Sound.{cycle-kept}
 use Rattle.thm_wiki.proofs.Tests.{le-or-lt}
+use Rattle.thm_wiki.proofs.Notes.{cycle-notes}
 
 pub record Stands (x : Noted) (n : Namco163) : Type 0 where
   pub board : n .board ≡ Is163
@@ -265,23 +266,13 @@ read-stands x n a r q = go (ltb a 0x4800) (ltb a 0x5000)
         }
     go false false = q
 
--- no cycle notes anything of the registers
-note-selects : (m : Wiki) (t : Notes) → note m t cycle .selects ≡ t .selects
-unfolding note
-note-selects m t = go (m .sound .silent) (eqb (m .sound .timer + 1) 15)
-  where
-    go : (y z : Bool) → cond y t (cond z (noteUpdate (m .sound) t) t) .selects ≡ t .selects
-    go true z = refl
-    go false true = refl
-    go false false = refl
-
 pub cycle-stands : (x : Noted) (n : Namco163) → ChipTyped n → ChipInRange n → Stands x n → Stands (next x cycle) (chipClock n .state)
 unfolding step chipClock clockCounter
 cycle-stands x n t r q =
     taken (λ (c : Clocked Namco163 Float). Stands (next x cycle) (c .state)) (is163 (n .board)) _ _ (ap is163 (q .board))
     (record {
       board = q .board;
-      regs = rw (note-selects (x .machine) (x .notes)) (q .regs);
+      regs = rw (cycle-notes (x .machine) (x .notes) .selects) (q .regs);
       irq = cycle-agrees (n .regs) (t .counter) ∙ ap wikiCycle (q .irq);
       sound = cycle-kept (x .machine) (x .notes) (n .audio) (t .audio) (r .audio) (q .sound);
     })

@@ -1,5 +1,5 @@
 -- A 175 or a 340 that does not detect beside the wiki's machine: what every step keeps. Assumes nothing.
-use Prim.Native.Nat.{ℕ, _+_, _-_, _*_, _/_, _%_, _≤_, _<_}
+use Prim.Native.Nat.{ℕ, _-_, _*_, _/_, _%_, _≤_, _<_}
 use mathlib.Core.Path.{_≡_, refl, sym, ap, _∙_}
 use mathlib.Core.Bool.{Bool, true, false, cond, _&&_, _||_}
 use mathlib.Core.Logic.{_⊎_, inl, inr}
@@ -7,7 +7,7 @@ use native.Mathlib.Decide.{ℕ-discrete}
 use native.Mathlib.Nat.{div-one}
 use native.Mathlib.Omega.{arith}
 use borrow.Author.Tests.{lt-ltb, le-ltb, le-leb, lt-leb, ltb-true, ltb-false, leb-false}
-use lib.Dec.{eqb, leb, ltb}
+use lib.Dec.{leb, ltb}
 use lib.ListN.{length, length-set, getD, getD-replicate, replicate, set}
 use lib.Seq.{getD-set-same, getD-set-other}
 use Rattle.memory.specs.declared.mirroring.Mirroring.{Mirroring}
@@ -29,8 +29,8 @@ use Rattle.board_state.specs.State.{ChipTyped}
 use Rattle.call_run.specs.Clock.{chipClock}
 use Rattle.thm_wiki.specs.Registers.{WikiRegs, noRegs, chrPage, wikiBit, wikiWrite, wikiShows210, wikiPrgPage, wikiMirroring}
 use Rattle.thm_wiki.specs.Counter.{WikiIrq, wikiWriteLow, wikiWriteHigh, wikiCycle, irqWrite}
-use Rattle.thm_wiki.specs.Machine.{Wiki, write, read, cycle, step}
-use Rattle.thm_wiki.specs.Notes.{Notes, Noted, inside, noteUpdate, note, next, start}
+use Rattle.thm_wiki.specs.Machine.{write, read, cycle, step}
+use Rattle.thm_wiki.specs.Notes.{Noted, inside, note, next, start}
 use Rattle.thm_wiki.specs.Shown.{irqOf}
 use Rattle.thm_wiki.specs.Agrees.{selectedBy}
 use Rattle.thm_wiki.proofs.Tests.{same-test, never}
@@ -38,6 +38,7 @@ use Rattle.thm_wiki.proofs.Ranges.{firm-settled, by-firm}
 use Rattle.thm_wiki.proofs.Registers.{shows, pages-set, pages-past}
 use Rattle.thm_wiki.proofs.Counter.{cycle-agrees, low-agrees, high-agrees, irq-below, irq-low, irq-high, irq-above}
 use Rattle.thm_wiki.proofs.Port.{write-agrees}
+use Rattle.thm_wiki.proofs.Notes.{cycle-notes}
 
 -- W14: a 340's mirroring is by bits 6 and 7 alone
 mirroring-bits : (v : ℕ) → v < 256 → mirroringE000 v ≡ mirroringE000 (v / 64 * 64)
@@ -66,18 +67,6 @@ still-written a at v l h p =
       still-advanced (withSoundRam a (set (a .ram) (a .addr) v)) (record { addr = p .addr; auto = p .auto }),
     )
     (record { addr = p .addr; auto = p .auto })
-
--- no cycle notes anything of the registers
-note-kept : (w : Wiki) (t : Notes)
-    → (note w t cycle .enable ≡ t .enable) × ((note w t cycle .past ≡ t .past) × (note w t cycle .mirrored ≡ t .mirrored))
-unfolding note
-note-kept w t = go (w .sound .silent) (eqb (w .sound .timer + 1) 15)
-  where
-    go : (y z : Bool) → let u = cond y t (cond z (noteUpdate (w .sound) t) t) in
-        (u .enable ≡ t .enable) × ((u .past ≡ t .past) × (u .mirrored ≡ t .mirrored))
-    go true z = (refl, (refl, refl))
-    go false true = (refl, (refl, refl))
-    go false false = (refl, (refl, refl))
 
 -- the windows and banks of a new board
 fresh-chr : (k : ℕ) → k < 8 → shows (replicate 12 false) (replicate 12 0) k ≡ wikiShows210 noRegs k
@@ -391,45 +380,28 @@ module _ (b : Board) (m : Mirroring) (other : is163 b ≡ false) where
   pub cycle-stands : (x : Noted) (n : Namco163) → ChipTyped n → Stands210 x n → Stands210 (next x cycle) (chipClock n .state)
   unfolding step chipClock clockCounter
   cycle-stands x n t q =
+      let k = cycle-notes (x .machine) (x .notes) in
       rw (ap is163 (q .board) ∙ other)
-      (stays x (next x cycle) n _ refl (note-kept (x .machine) (x .notes) .0) (note-kept (x .machine) (x .notes) .1 .0)
-      (note-kept (x .machine) (x .notes) .1 .1) refl refl refl refl refl refl
+      (stays x (next x cycle) n _ refl (k .enable) (k .past) (k .mirrored) refl refl refl refl refl refl
       refl (cycle-agrees (n .regs) (t .counter) ∙ ap wikiCycle (q .irq)) (q .port) q)
 
--- ---- a load of mapper 210
+  -- ---- a load of mapper 210
 
-pub stands-175 : (flags : ℕ) (known : Bool) → Stands210 Namco175 (mirroringAtLoad flags) refl start (chipAtLoad 210 1 flags known)
-unfolding chipAtLoad boardAtLoad detectingAtLoad
-stands-175 flags known =
-    record {
-      settled = refl;
-      board = refl;
-      chr = fresh-chr;
-      prg = fresh-prg;
-      irq = refl;
-      port = record { addr = refl; auto = refl };
-      enabled = λ e. refl;
-      gate = λ e. refl;
-      wired = λ e. refl;
-      selected = λ e. refl;
-      windows = refl;
-      upper = refl;
-    }
-
-pub stands-340 : (flags : ℕ) (known : Bool) → Stands210 Namco340 (mirroringAtLoad flags) refl start (chipAtLoad 210 2 flags known)
-unfolding chipAtLoad boardAtLoad detectingAtLoad
-stands-340 flags known =
-    record {
-      settled = refl;
-      board = refl;
-      chr = fresh-chr;
-      prg = fresh-prg;
-      irq = refl;
-      port = record { addr = refl; auto = refl };
-      enabled = λ e. refl;
-      gate = λ e. refl;
-      wired = λ e. refl;
-      selected = λ e. refl;
-      windows = refl;
-      upper = refl;
-    }
+  pub fresh-stands : (sub flags : ℕ) (known : Bool) → boardAtLoad 210 sub ≡ b → detectingAtLoad 210 sub known ≡ false
+      → mirroringAtLoad flags ≡ m → Stands210 start (chipAtLoad 210 sub flags known)
+  unfolding chipAtLoad
+  fresh-stands sub flags known is quiet wires =
+      record {
+        settled = quiet;
+        board = is;
+        chr = fresh-chr;
+        prg = fresh-prg;
+        irq = refl;
+        port = record { addr = refl; auto = refl };
+        enabled = λ e. ap (λ (o : Board). prgRamWritable o 0) e;
+        gate = λ e. refl;
+        wired = λ e. wires;
+        selected = λ e. wires;
+        windows = refl;
+        upper = refl;
+      }
