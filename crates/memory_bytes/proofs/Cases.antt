@@ -1,4 +1,4 @@
--- Places and `sram` at the edges of their regions: a table each, and one computed test over all rows. Assumes nothing.
+-- Places of entries and regions, and `sram`, at their edges: a table each, and one computed test over all rows. Assumes nothing.
 use Prim.Native.Nat.{ℕ}
 use mathlib.Core.Path.{_≡_, refl}
 use mathlib.Core.Bool.{Bool, true, false, _&&_}
@@ -10,7 +10,7 @@ use Rattle.memory.specs.declared.layout.MemoryLayout.{MemoryLayout}
 use Rattle.memory.specs.declared.layout.Src.{Src}
 use Rattle.memory.specs.declared.layout.Src.the-variants.{PrgRom, PrgRam, BatteryExt}
 use Rattle.memory.specs.Layout.{layoutOf, arenaOrder, pagesBefore, firstPage, regionOf}
-use Rattle.memory_bytes.specs.Bytes.{wrappedAt, sramOf}
+use Rattle.memory_bytes.specs.Bytes.{storedAt, wrappedAt, sramOf}
 
 -- layout P (T0) with other sizes
 abbrev cart : ℕ → ℕ → MemoryLayout
@@ -52,6 +52,24 @@ samePlace (some i) (some j) = eqb i j
 abbrev placeRight : Place → Bool
 placeRight c = samePlace (wrappedAt (regionOf (layoutOf (c .cart)) (c .used) (c .src)) (c .offset)) (c .at)
 
+-- the same of an entry: what has the flag takes the store, in the zero page too (R10); what has not takes none
+record Entry : Type 0 where
+  number : ℕ
+  addr : ℕ
+  at : Option ℕ
+
+abbrev entries : List Entry
+entries =
+    record { number = 0x80000000; addr = 0x6005; at = some 5 }
+    ∷ record { number = 0x80000000; addr = 0x7FFF; at = some 1023 }
+    ∷ record { number = 0; addr = 0x6005; at = none }
+    ∷ record { number = 0x80000400; addr = 0x6405; at = some 1029 }
+    ∷ record { number = 0x400; addr = 0x6405; at = none }
+    ∷ []
+
+abbrev entryRight : Entry → Bool
+entryRight e = samePlace (storedAt (record { 0 = e .number }) (e .addr)) (e .at)
+
 -- `sram` of P, and of P without PRG-RAM, with the whole sound RAM used or none of it
 record Battery : Type 0 where
   cart : MemoryLayout
@@ -74,8 +92,8 @@ batteryRight b =
 -- ---- the test over all rows
 
 pub right : Bool
-right = every placeRight places && every batteryRight batteries
+right = every placeRight places && every entryRight entries && every batteryRight batteries
 
 pub cases : right ≡ true
-unfolding right layoutOf arenaOrder pagesBefore firstPage regionOf wrappedAt sramOf
+unfolding right layoutOf arenaOrder pagesBefore firstPage regionOf storedAt wrappedAt sramOf
 cases = refl

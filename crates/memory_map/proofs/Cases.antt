@@ -1,4 +1,5 @@
--- Windows and nametables at the edges of their regions: a table each, and one computed test over all rows. Assumes nothing.
+-- Windows and nametables at the edges of their regions, and entries that get a flag: a table each, and one computed test over all rows.
+-- Assumes nothing.
 use Prim.Native.Nat.{ℕ, zero, suc, _+_, _*_, _/_}
 use mathlib.Core.Path.{_≡_, refl}
 use mathlib.Core.Bool.{Bool, true, false, _&&_}
@@ -17,7 +18,7 @@ use Rattle.memory.specs.Layout.{layoutOf, arenaOrder, pagesBefore, firstPage, r
 use Rattle.memory_map.specs.Mirroring.{nametablePage, mirrorPages, setMirroring}
 use Rattle.memory_map.specs.New.{unmappedMemory, newMemory}
 use Rattle.memory.specs.Page.{pageOf}
-use Rattle.memory_map.specs.Windows.{banksOf, windowBase, regionPage, eachPage, showPages, mapPages, mapPrg}
+use Rattle.memory_map.specs.Windows.{banksOf, windowBase, regionPage, withFlag, eachPage, showPages, mapPages, mapPrg}
 
 -- ---- what a row says
 
@@ -102,6 +103,25 @@ rams =
 abbrev ramRight : Ram → Bool
 ramRight r = every (λ n. prg (cart 32768 (1024 * n) 2048) 0x6000 (pos 0) PrgRam (r .shows)) (r .pages)
 
+-- ---- the flag of an entry: M5. Only the number 0 is unmapped; page 1, which PRG-RAM can have, is like any other
+
+record Flag : Type 0 where
+  entry : ℕ
+  set : ℕ
+  cleared : ℕ
+
+abbrev flags : List Flag
+flags =
+    record { entry = 0; set = 0; cleared = 0 }
+    ∷ record { entry = 0x80000000; set = 0x80000000; cleared = 0 }
+    ∷ record { entry = 0x400; set = 0x80000400; cleared = 0x400 }
+    ∷ record { entry = 0x80000400; set = 0x80000400; cleared = 0x400 }
+    ∷ record { entry = 0x80000800; set = 0x80000800; cleared = 0x800 }
+    ∷ []
+
+abbrev flagRight : Flag → Bool
+flagRight f = eqb (withFlag true (record { 0 = f .entry }) .0) (f .set) && eqb (withFlag false (record { 0 = f .entry }) .0) (f .cleared)
+
 -- ---- nametables: the pages behind CIRAM's first that the four show, at $2000 and again at $3000
 
 record Nametables : Type 0 where
@@ -130,7 +150,7 @@ nametablesRight n =
 -- ---- the test over all rows
 
 pub right : Bool
-right = every romRight roms && every ramRight rams && every nametablesRight nametables
+right = every romRight roms && every ramRight rams && every flagRight flags && every nametablesRight nametables
 
 pub cases : right ≡ true
 unfolding right layoutOf arenaOrder pagesBefore firstPage regionOf banksOf windowBase regionPage eachPage showPages mapPages mapPrg

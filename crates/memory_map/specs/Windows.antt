@@ -42,9 +42,13 @@ pub record Shown (r : Region) (base : ℕ) : Type 0 where
   pub reached : r .start + r .len < 2 ^ 30
   pub within : base ≤ r .len
 
--- M5: the flag as told, the offset as it was; an unmapped entry is no exception
+-- M5 in the Rust: the flag as told, the offset as it was; an unmapped entry is no exception
+abbrev pub rustWithFlag : Bool → Page → Page
+rustWithFlag w p = pageOf (offsetOf p) w
+
+-- M5: an unmapped entry stays so; every other one as in the Rust
 abbrev pub withFlag : Bool → Page → Page
-withFlag w p = pageOf (offsetOf p) w
+withFlag w p = cond (eqb (p .0) 0) p (rustWithFlag w p)
 
 -- ---- tables
 
@@ -94,3 +98,7 @@ unmapPrg m addr s = withPrgPages m (unmapPages 64 s (addr / 1024) (m .«prg_page
 -- `Memory::set_prg_writable`
 unfoldable pub setPrgWritable : Memory → ℕ → ℕ → Bool → Memory
 setPrgWritable m addr s w = withPrgPages m (setWritable 64 s w (addr / 1024) (m .«prg_pages»))
+
+-- the same by the Rust's rule
+unfoldable pub rustSetPrgWritable : Memory → ℕ → ℕ → Bool → Memory
+rustSetPrgWritable m addr s w = withPrgPages m (eachPage 64 (λ i old. rustWithFlag w old) (addr / 1024) (s / 1024) (m .«prg_pages»))

@@ -52,10 +52,13 @@ fn region_page(region: Region, offset: usize) -> Page
     Page::new(region.start + offset % len, region.writable)
 }
 
-// The offset kept, the flag set.
+// The offset kept, the flag set; an unmapped entry stays unmapped.
 fn with_flag(page: Page, writable: bool) -> Page
     ensures { λ r. ⌜ r ≡ withFlag writable page ⌝ }
 {
+    if page.0 == 0 {
+        return page;
+    }
     Page::new(page.offset(), writable)
 }
 

@@ -1,7 +1,7 @@
 -- What is promised, as theorems, for a reader who opens one file: each statement is over definitions of specs/, and its proof cites where
 -- it is shown. The public calls are contracted by the same definitions (crates/call_*/src, crates/image_*/src, crates/host/src) and have no
 -- `requires`; only functions beside them have one, as the variants `.._known` for a state that is known to be in range.
-use Prim.Native.Nat.{ℕ, _+_, _^_, _<_}
+use Prim.Native.Nat.{ℕ, _+_, _^_, _≤_, _<_}
 use mathlib.Core.Path.{_≡_, refl}
 use mathlib.Core.Bool.{false, not, _&&_}
 use mathlib.Core.List.{List, [], _∷_, _++_}
@@ -9,12 +9,15 @@ use mathlib.Core.Logic.{_⊎_}
 use lib.Ieee.{Float}
 use lib.ListN.{length}
 use Rattle.cut.specs.Always.{AllTyped, NeverRefused}
-use Rattle.cut.specs.Calls.{Call, refused, start, outline, allClocks}
+use Rattle.cut.specs.Calls.{Call, refused, answered, start, outline, allClocks}
 use Rattle.cut.specs.Demand3.{observed, FirstRise}
 use Rattle.cut.specs.Machine.{machine}
+use Rattle.memory.specs.declared.Memory.{Memory}
 use Rattle.memory.specs.declared.layout.MemoryLayout.{MemoryLayout}
-use Rattle.memory.specs.Range.{Bytes}
+use Rattle.memory.specs.Range.{MemoryTyped, Bytes}
+use Rattle.board_chip.specs.declared.namco163.Namco163.{Namco163}
 use Rattle.board_chip.specs.Load.{mirroringAtLoad}
+use Rattle.board_banking.specs.Banking.{updateBanks}
 use Rattle.board_state.specs.declared.State.{State}
 use Rattle.board_state.specs.State.{Known}
 use Rattle.call_refusals.specs.Refusals.{firstOf, kindCheck, loadChecks}
@@ -27,7 +30,7 @@ use Rattle.image_read.proofs.RoundTrip.{read-written, written-read}
 use Rattle.host_state.specs.HostState.{unaltered, runOwn}
 use Rattle.host.specs.Host.{onImage, stateIn, cpuOwn, hostLoad, hostReset, hostRead, hostWrite, hostRun}
 use Rattle.host.proofs.Refused as Host
-use Rattle.thm_machine.specs.Calls.{Held, Other, CallTyped}
+use Rattle.thm_machine.specs.Calls.{Held, Other, cpuRead, byte, CallTyped}
 use Rattle.thm_machine.specs.Paper.{checks, paper}
 use Rattle.thm_machine.specs.Board.{otherGives, board}
 use Rattle.thm_machine.specs.Start.{Loaded, loaded, zeroed}
@@ -36,6 +39,10 @@ use Rattle.thm_machine.proofs.Demand3 as Machine
 use Rattle.thm_range.specs.Fit.{Fit}
 use Rattle.thm_range.proofs.Lists.{always-fit, never-2-or-7}
 use Rattle.thm_range.proofs.Refused.{other-refused}
+use Rattle.thm_work_ram.specs.Rust.{rustUpdateBanks}
+use Rattle.thm_work_ram.specs.ZeroPage.{ZeroPage, NoWorkRam}
+use Rattle.thm_work_ram.proofs.Mapping.{ram-as-rust, no-ram}
+use Rattle.thm_work_ram.proofs.Lists.{zero-page, work-ram-reads}
 use Rattle.thm_wiki.specs.Notes.{start as fresh}
 use Rattle.thm_wiki.specs.Lists.{beside, Plain}
 use Rattle.thm_wiki.specs.Agrees.{Agrees163, Agrees175, Agrees340}
@@ -79,6 +86,23 @@ demand-2 = always-fit
 pub demand-2-refusals : (k : ℕ) → (k ≡ 2) ⊎ (k ≡ 7) → (l : Loaded) → l .submapper < 2 ^ 8 → (calls : List (Call Float Other))
     → AllTyped CallTyped calls → NeverRefused k (observed board calls (loaded l))
 demand-2-refusals = never-2-or-7
+
+-- ---- D2.1, M15, M16: with PRG-RAM the mapping is the Rust's; without it 6000..7FFF is unmapped and reads 0, and the zero page stays zeros
+
+pub work-ram-as-rust : (n : Namco163) (m : Memory) → MemoryTyped m → 1 ≤ m .layout .«prg_ram» → updateBanks n m ≡ rustUpdateBanks n m
+work-ram-as-rust = ram-as-rust
+
+pub work-ram-unmapped : (n : Namco163) (m : Memory) → MemoryTyped m → m .layout .«prg_ram» ≡ 0 → NoWorkRam (updateBanks n m)
+work-ram-unmapped = no-ram
+
+pub zero-page-stays : (l : Loaded) → l .submapper < 2 ^ 8 → (calls : List (Call Float Other)) → AllTyped CallTyped calls
+    → ZeroPage (observed board calls (loaded l) .state .arena)
+zero-page-stays = zero-page
+
+pub no-work-ram-reads : (l : Loaded) → l .submapper < 2 ^ 8 → (calls : List (Call Float Other)) → AllTyped CallTyped calls
+    → l .sizes .«prg_ram» ≡ 0 → (addr : ℕ) → 0x6000 ≤ addr → addr < 0x8000
+    → board .other (cpuRead addr) (observed board calls (loaded l) .state) .reply ≡ answered (byte 0)
+no-work-ram-reads = work-ram-reads
 
 -- ---- D2.2: after every list of calls without a reset the board agrees with the wiki's machine, but for departures that the claims name
 

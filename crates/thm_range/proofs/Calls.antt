@@ -1,6 +1,6 @@
 -- Every call keeps state and arena fit, refused ones too: one theorem over the calls of a list, and the run beside it. A fresh load is fit.
 use Prim.Native.Nat.{ℕ, zero, suc, _+_, _/_, _%_, _^_, _≤_, _<_}
-use mathlib.Core.Path.{_≡_, refl, sym, _∙_}
+use mathlib.Core.Path.{_≡_, refl, _∙_}
 use mathlib.Core.Bool.{Bool, true, false, cond}
 use mathlib.Core.List.{List, [], _∷_, _++_}
 use mathlib.Core.Logic.{_⊎_, inl, inr}
@@ -10,13 +10,12 @@ use borrow.Author.Needs.{needs}
 use borrow.Author.Tests.{not-false, eqb-true}
 use lib.Dec.{eqb}
 use lib.Ieee.{Float}
-use lib.ListN.{length, length-replicate, length-drop, getD, take, drop, replicate}
+use lib.ListN.{length, length-replicate, length-drop, take, drop}
 use lib.Seq.{length-take-le, getD-drop}
-use Rattle.cut.specs.Calls.{Gave, start}
-use Rattle.cut.specs.Machine.{Answered, plainly, tick, ticks}
+use Rattle.cut.specs.Calls.{start}
+use Rattle.cut.specs.Machine.{Answered, plainly, ticks}
 use Rattle.cut.specs.Contract.{runBy}
 use Rattle.cut.proofs.Machine.{state-more}
-use Rattle.limits.specs.Limits.{usedMost}
 use Rattle.limits.proofs.Each.{cond-holds, below-set, each-replicate}
 use Rattle.memory.specs.declared.Memory.{Memory}
 use Rattle.memory.specs.declared.layout.MemoryLayout.{MemoryLayout}
@@ -39,7 +38,7 @@ use Rattle.board_chip.specs.Namco163.{withAudio}
 use Rattle.board_registers.specs.Writes.{writeChip, remaps}
 use Rattle.board_banking.specs.Banking.{updateBanks}
 use Rattle.board_state.specs.declared.State.{State}
-use Rattle.board_state.specs.State.{mapperOk, MapperIn, Known, withChip}
+use Rattle.board_state.specs.State.{mapperOk, Known, withChip}
 use Rattle.board_state.proofs.Range.{mapper-in}
 use Rattle.call_refusals.specs.Refusals.{firstOf, cpuChecks, loadChecks}
 use Rattle.call_refusals.proofs.Laws.{accepted-none, fill-good, battery-good, backed}
@@ -216,13 +215,17 @@ accepted-fits syncBattery h t f e = sync-fits h f e
 accepted-fits restoreBattery h t f e = restore-fits h f e
 accepted-fits (writeImage buffer) h t f e = f
 
-by-number : (q : ℕ) (b : Answered Held Answer) (h : Held) → Fit h → (q ≡ 0 → Fit (b .state)) → Fit (plainly q b h .state)
-by-number zero b h f g = g refl
-by-number (suc q) b h f g = f
+by-number : (P : Held → Type 0) (q : ℕ) (b : Answered Held Answer) (h : Held) → P h → (q ≡ 0 → P (b .state)) → P (plainly q b h .state)
+by-number P zero b h f g = g refl
+by-number P (suc q) b h f g = f
 
--- refused or accepted
+-- what holds before a call, and after it where it is accepted, holds after it
+pub by-answer : (P : Held → Type 0) (a : Other) (h : Held) → P h → (firstOf (checks a h) ≡ 0 → P (answers a h .state))
+    → P (otherGives a h .state)
+by-answer P a h f g = rw (keeps-other a h) (by-number P (firstOf (checks a h)) (answers a h) h f g)
+
 pub other-fits : (a : Other) (h : Held) → ArgTyped a → Fit h → Fit (otherGives a h .state)
-other-fits a h t f = rw (keeps-other a h) (by-number (firstOf (checks a h)) (answers a h) h f (accepted-fits a h t f))
+other-fits a h t f = by-answer Fit a h f (accepted-fits a h t f)
 
 -- ---- the run
 
@@ -235,22 +238,31 @@ unfolding ticks
 clocks-known zero s k = k
 clocks-known (suc n) s k = rw (state-more stateClock n s) (clock-known (clocks n s .state) (clocks-known n s k))
 
-clock-layout : (n : ℕ) (s : State) → clocks n s .state .memory .layout ≡ s .memory .layout
+clocks-memory : (n : ℕ) (s : State) → clocks n s .state .memory ≡ s .memory
 unfolding ticks stateClock
-clock-layout zero s = refl
-clock-layout (suc n) s = rw (state-more stateClock n s) (clock-layout n s)
+clocks-memory zero s = refl
+clocks-memory (suc n) s = rw (state-more stateClock n s) (clocks-memory n s)
 
 pub run-fits : (n : ℕ) (lent : List Float) (h : Held) → Fit h → Fit (runGives n lent h .state)
 unfolding runGives runGave
 run-fits n lent h f = go (firstOf (runChecks (h .state) n (length lent)))
   where
     go : (q : ℕ) → Fit (record { state = runBy q (clocks n (h .state)) lent (h .state) .state; arena = h .arena })
-    go zero = record { known = clocks-known n (h .state) (f .known); long = rw (clock-layout n (h .state)) (f .long); bytes = f .bytes }
+    go zero = record { known = clocks-known n (h .state) (f .known); long = rw (clocks-memory n (h .state)) (f .long); bytes = f .bytes }
     go (suc q) = f
+
+-- C1: a run leaves the memory, accepted or not
+pub run-memory : (n : ℕ) (lent : List Float) (h : Held) → runGives n lent h .state .state .memory ≡ h .state .memory
+unfolding runGives runGave
+run-memory n lent h = go (firstOf (runChecks (h .state) n (length lent)))
+  where
+    go : (q : ℕ) → runBy q (clocks n (h .state)) lent (h .state) .state .memory ≡ h .state .memory
+    go zero = clocks-memory n (h .state)
+    go (suc q) = refl
 
 -- ---- load
 
-ranged-load : (mapper : ℕ) (sizes : MemoryLayout) → LoadFits mapper sizes → Ranged (memoryAtLoad mapper sizes)
+pub ranged-load : (mapper : ℕ) (sizes : MemoryLayout) → LoadFits mapper sizes → Ranged (memoryAtLoad mapper sizes)
 unfolding memoryAtLoad
 ranged-load mapper sizes h =
     let r = ranged-new sizes (h .within) in record { sized = sized-load mapper sizes h; prg = r .prg; chr = r .chr }
@@ -265,17 +277,17 @@ used-load mapper sizes h = go (eqb mapper 19) refl
     go true e = let r = h .reserve (eqb-true mapper 19 e) in inr (refl, omega arith)
     go false e = inl refl
 
-memory-load : (mapper : ℕ) (sizes : MemoryLayout) → MemoryTyped (memoryAtLoad mapper sizes)
+pub memory-load : (mapper : ℕ) (sizes : MemoryLayout) → MemoryTyped (memoryAtLoad mapper sizes)
 unfolding memoryAtLoad
 memory-load mapper sizes =
     let z = typed-new sizes in
     record { prg = z .prg; chr = z .chr; «prg-words» = z .«prg-words»; «chr-words» = z .«chr-words» }
 
-layout-load : (mapper : ℕ) (sizes : MemoryLayout) → memoryAtLoad mapper sizes .layout ≡ layoutOf sizes
+pub layout-load : (mapper : ℕ) (sizes : MemoryLayout) → memoryAtLoad mapper sizes .layout ≡ layoutOf sizes
 unfolding memoryAtLoad newMemory setMirroring unmappedMemory
 layout-load mapper sizes = refl
 
-zeroed-fits : (l : Loaded) → l .submapper < 2 ^ 8 → Fit (zeroed l)
+pub zeroed-fits : (l : Loaded) → l .submapper < 2 ^ 8 → Fit (zeroed l)
 unfolding freshState
 zeroed-fits l sub =
     let mapper = l .mapper in let sizes = l .sizes in

@@ -2,7 +2,7 @@
 -- so that bits 0..23 of a write's PRG mask are never set (L15). Assumes nothing.
 use Prim.Native.Nat.{ℕ, zero, suc, _+_, _*_, _/_, _%_, _^_, _≤_, _<_}
 use mathlib.Core.Path.{_≡_, refl, _∙_}
-use mathlib.Core.Bool.{Bool, true, false, cond}
+use mathlib.Core.Bool.{Bool, true, false}
 use mathlib.Core.List.{List, [], _∷_}
 use native.Mathlib.Nat.{pow-suc, zero-mod}
 use native.Mathlib.Omega.{arith}
@@ -19,9 +19,9 @@ use Rattle.memory.specs.declared.layout.Src.{Src}
 use Rattle.memory.specs.declared.layout.Src.the-variants.{PrgRom, PrgRam}
 use Rattle.memory.specs.declared.mirroring.Mirroring.{Mirroring}
 use Rattle.memory.specs.declared.page.Page.{Page}
-use Rattle.memory.specs.Changes.{changed, prgChanges}
+use Rattle.memory.specs.Changes.{changed}
 use Rattle.memory.specs.Layout.{regionLen, pagesIn}
-use Rattle.memory.specs.Range.{Ranged, MemoryTyped, MemoryInRange}
+use Rattle.memory.specs.Range.{Ranged, MemoryTyped}
 use Rattle.memory_map.specs.Mirroring.{setMirroring}
 use Rattle.memory.specs.Page.{unmapped}
 use Rattle.memory_map.specs.Windows.{mapPages, showPages, unmapPages, setWritable, mapPrg, mapChr, unmapPrg, setPrgWritable}
@@ -33,51 +33,65 @@ use Rattle.board_chip.specs.Namco163.{prgWindow, chrWindow, is163}
 use Rattle.board_chip.specs.Detection.{prgRamReadable}
 use Rattle.board_banking.specs.Banking.{slotSrc, mapSlot, mapSlots, mapChrTable, mapRom, mapWorkRam, updateBanks}
 
--- ---- a memory in range stays in range
+-- ---- what each step of the mapping keeps, the mapping keeps
 
-ranged-cond : (t : Bool) (a b : Memory) → Ranged a → Ranged b → Ranged (cond t a b)
-ranged-cond = cond-holds Ranged
+pub record Steps (P : Memory → Type 0) : Type 0 where
+  pub slot : (m : Memory) (addr bank : ℕ) (ciram : Bool) → P m → P (mapChr m addr chrWindow (pos bank) (slotSrc ciram))
+  pub mirroring : (m : Memory) (k : Mirroring) → P m → P (setMirroring m k)
+  pub rom : (m : Memory) (addr : ℕ) (b : ℤ) → 0x6000 ≤ addr → addr ≤ 0xE000 → P m → P (mapPrg m addr prgWindow b PrgRom)
+  pub ram : (m : Memory) (w : Bool) → P m → P (setPrgWritable (mapPrg m 0x6000 prgWindow (pos 0) PrgRam) 0x6000 prgWindow w)
+  pub noRam : (m : Memory) → P m → P (unmapPrg m 0x6000 prgWindow)
+
+module _ (P : Memory → Type 0) (s : Steps P) where
+  by-slot : (m : Memory) (slot bank : ℕ) (ciram : Bool) → P m → P (mapSlot m slot bank ciram)
+  unfolding mapSlot
+  by-slot m slot bank ciram q =
+      let low = s .slot m (slot * chrWindow) bank ciram q in
+      cond-holds P (ltb slot 8) _ _ low (s .slot _ (slot * chrWindow + 0x1000) bank ciram low)
+
+  by-slots : (n : Namco163) (k : ℕ) (m : Memory) → P m → P (mapSlots n k m)
+  unfolding mapSlots
+  by-slots n zero m q = q
+  by-slots n (suc k) m q = by-slot (mapSlots n k m) k _ _ (by-slots n k m q)
+
+  by-table : (n : Namco163) (m : Memory) → P m → P (mapChrTable n m)
+  unfolding mapChrTable
+  by-table n m q =
+      cond-holds P (is163 (n .board)) _ _ (by-slots n 12 m q) (s .mirroring (mapSlots n 8 m) (n .mirroring) (by-slots n 8 m q))
+
+  -- both tables but for the window of work RAM
+  pub before-work-ram : (n : Namco163) (m : Memory) → P m → P (mapRom n (mapChrTable n m))
+  unfolding mapRom
+  before-work-ram n m q =
+      s .rom _ 0xE000 _ (omega arith) (omega arith)
+      (s .rom _ 0xC000 _ (omega arith) (omega arith)
+      (s .rom _ 0xA000 _ (omega arith) (omega arith)
+      (s .rom _ 0x8000 _ (omega arith) (omega arith) (by-table n m q))))
+
+  pub update-banks-keeps : (n : Namco163) (m : Memory) → P m → P (updateBanks n m)
+  unfolding updateBanks mapWorkRam
+  update-banks-keeps n m q =
+      let before = before-work-ram n m q in cond-holds P (prgRamReadable (n .board)) _ _ (s .ram _ _ before) (s .noRam _ before)
+
+-- ---- a memory in range stays in range
 
 -- CHR and CIRAM are as long as their pages
 slot-pages : (l : Layout) (used : ℕ) (ciram : Bool) → regionLen l used (slotSrc ciram) ≡ 1024 * pagesIn l (slotSrc ciram)
 slot-pages l used true = refl
 slot-pages l used false = refl
 
-ranged-slot : (m : Memory) (slot bank : ℕ) (ciram : Bool) → Ranged m → Ranged (mapSlot m slot bank ciram)
-unfolding mapSlot mapChr
-ranged-slot m slot bank ciram q =
-    let low = ranged-map-chr m q (slot * chrWindow) chrWindow (pos bank) (slotSrc ciram) refl (slot-pages _ _ ciram) in
-    ranged-cond (ltb slot 8) _ _ low
-    (ranged-map-chr _ low (slot * chrWindow + 0x1000) chrWindow (pos bank) (slotSrc ciram) refl (slot-pages _ _ ciram))
-
-ranged-slots : (n : Namco163) (k : ℕ) (m : Memory) → Ranged m → Ranged (mapSlots n k m)
-unfolding mapSlots
-ranged-slots n zero m q = q
-ranged-slots n (suc k) m q = ranged-slot (mapSlots n k m) k _ _ (ranged-slots n k m q)
-
-ranged-table : (n : Namco163) (m : Memory) → Ranged m → Ranged (mapChrTable n m)
-unfolding mapChrTable
-ranged-table n m q =
-    ranged-cond (is163 (n .board)) _ _ (ranged-slots n 12 m q) (ranged-mirroring (mapSlots n 8 m) (ranged-slots n 8 m q) (n .mirroring))
-
--- a PRG-ROM bank in an 8 KiB window
-ranged-window : (m : Memory) (addr : ℕ) (b : ℤ) → Ranged m → Ranged (mapPrg m addr prgWindow b PrgRom)
-ranged-window m addr b q = ranged-map-prg m q addr prgWindow b PrgRom refl refl
-
-ranged-rom : (n : Namco163) (m : Memory) → Ranged m → Ranged (mapRom n m)
-unfolding mapRom
-ranged-rom n m q = ranged-window _ _ _ (ranged-window _ _ _ (ranged-window _ _ _ (ranged-window m _ _ q)))
-
-ranged-work-ram : (n : Namco163) (m : Memory) → Ranged m → Ranged (mapWorkRam n m)
-unfolding mapWorkRam
-ranged-work-ram n m q =
-    ranged-cond (prgRamReadable (n .board)) _ _
-    (ranged-set-writable _ (ranged-map-prg m q 0x6000 prgWindow (pos 0) PrgRam refl refl) 0x6000 prgWindow _)
-    (ranged-unmap-prg m q 0x6000 prgWindow)
+pub ranged-steps : Steps Ranged
+ranged-steps =
+    record {
+      slot = λ m addr bank ciram q. ranged-map-chr m q addr chrWindow (pos bank) (slotSrc ciram) refl (slot-pages _ _ ciram);
+      mirroring = λ m k q. ranged-mirroring m q k;
+      rom = λ m addr b lo hi q. ranged-map-prg m q addr prgWindow b PrgRom refl refl;
+      ram = λ m w q. ranged-set-writable _ (ranged-map-prg m q 0x6000 prgWindow (pos 0) PrgRam refl refl) 0x6000 prgWindow w;
+      noRam = λ m q. ranged-unmap-prg m q 0x6000 prgWindow;
+    }
 
 pub update-banks-ranged : (n : Namco163) (m : Memory) → Ranged m → Ranged (updateBanks n m)
-unfolding updateBanks
-update-banks-ranged n m q = ranged-work-ram n _ (ranged-rom n _ (ranged-table n m q))
+update-banks-ranged = update-banks-keeps Ranged ranged-steps
 
 -- ---- what mapping leaves alone
 
@@ -98,9 +112,6 @@ kept-both p q =
       low = λ i h. q .low i h ∙ p .low i h;
       typed = λ t. q .typed (p .typed t);
     }
-
-kept-cond : (t : Bool) (m a b : Memory) → Kept m a → Kept m b → Kept m (cond t a b)
-kept-cond t m = cond-holds (Kept m) t
 
 kept-chr : (m : Memory) (addr s : ℕ) (b : ℤ) (src : Src) → Kept m (mapChr m addr s b src)
 unfolding mapChr
@@ -142,39 +153,21 @@ module _ (m : Memory) (addr : ℕ) (lo : 0x6000 ≤ addr) (hi : addr ≤ 0xE000)
         typed = λ q. typed-set-writable m q addr prgWindow w;
       }
 
-kept-slot : (m : Memory) (slot bank : ℕ) (ciram : Bool) → Kept m (mapSlot m slot bank ciram)
-unfolding mapSlot
-kept-slot m slot bank ciram =
-    kept-cond (ltb slot 8) m _ _ (kept-chr m _ _ _ _) (kept-both (kept-chr m _ _ _ _) (kept-chr _ _ _ _ _))
-
-kept-slots : (n : Namco163) (k : ℕ) (m : Memory) → Kept m (mapSlots n k m)
-unfolding mapSlots
-kept-slots n zero m = kept-self m
-kept-slots n (suc k) m = kept-both (kept-slots n k m) (kept-slot (mapSlots n k m) k _ _)
-
-kept-table : (n : Namco163) (m : Memory) → Kept m (mapChrTable n m)
-unfolding mapChrTable
-kept-table n m = kept-cond (is163 (n .board)) m _ _ (kept-slots n 12 m) (kept-both (kept-slots n 8 m) (kept-mirroring _ _))
-
-kept-rom : (n : Namco163) (m : Memory) → Kept m (mapRom n m)
-unfolding mapRom
-kept-rom n m =
-    kept-both
-    (kept-both
-    (kept-both (kept-prg m 0x8000 (omega arith) (omega arith) _ _) (kept-prg _ 0xA000 (omega arith) (omega arith) _ _))
-    (kept-prg _ 0xC000 (omega arith) (omega arith) _ _))
-    (kept-prg _ 0xE000 (omega arith) (omega arith) _ _)
-
-kept-work-ram : (n : Namco163) (m : Memory) → Kept m (mapWorkRam n m)
-unfolding mapWorkRam
-kept-work-ram n m =
-    kept-cond (prgRamReadable (n .board)) m _ _
-    (kept-both (kept-prg m 0x6000 (omega arith) (omega arith) _ _) (kept-writable _ 0x6000 (omega arith) (omega arith) _))
-    (kept-unmap m 0x6000 (omega arith) (omega arith))
+pub kept-steps : (m : Memory) → Steps (Kept m)
+kept-steps m =
+    record {
+      slot = λ k addr bank ciram q. kept-both q (kept-chr k addr chrWindow (pos bank) (slotSrc ciram));
+      mirroring = λ k mirroring q. kept-both q (kept-mirroring k mirroring);
+      rom = λ k addr b lo hi q. kept-both q (kept-prg k addr lo hi b PrgRom);
+      ram = λ k w q.
+          kept-both
+          (kept-both q (kept-prg k 0x6000 (omega arith) (omega arith) (pos 0) PrgRam))
+          (kept-writable _ 0x6000 (omega arith) (omega arith) w);
+      noRam = λ k q. kept-both q (kept-unmap k 0x6000 (omega arith) (omega arith));
+    }
 
 pub update-banks-kept : (n : Namco163) (m : Memory) → Kept m (updateBanks n m)
-unfolding updateBanks
-update-banks-kept n m = kept-both (kept-both (kept-table n m) (kept-rom n _)) (kept-work-ram n _)
+update-banks-kept n m = update-banks-keeps (Kept m) (kept-steps m) n m (kept-self m)
 
 -- ---- the mask of two tables whose first k entries agree is a multiple of 2 ^ k
 

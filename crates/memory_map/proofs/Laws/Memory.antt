@@ -4,14 +4,15 @@ use mathlib.Core.Path.{_≡_, refl, ap, ap₂, _∙_}
 use mathlib.Core.Bool.{Bool, true, false, cond}
 use mathlib.Core.List.{List}
 use mathlib.Core.Logic.{_⊎_, inl, inr}
-use native.Mathlib.Nat.{mod-lt, mul-assoc, eq-zero-or-pos}
+use native.Mathlib.Decide.{ℕ-discrete}
+use native.Mathlib.Nat.{mod-lt, mod-eq-of-lt, mul-assoc, eq-zero-or-pos}
 use native.Mathlib.Omega.{arith}
 use borrow.Author.Tests.{eq-eqb, ne-eqb}
 use lib.Arith.{mod-mul}
 use lib.IntN.{ℤ}
 use lib.Dec.{eqb}
-use lib.ListN.{getD, replicate, getD-replicate}
-use lib.Seq.{getD-set-other}
+use lib.ListN.{length, getD, set, replicate, getD-replicate}
+use lib.Seq.{getD-set-same, getD-set-other}
 use Rattle.memory.specs.declared.Memory.{Memory}
 use Rattle.memory.specs.declared.layout.Layout.{Layout}
 use Rattle.memory.specs.declared.layout.MemoryLayout.{MemoryLayout}
@@ -27,7 +28,7 @@ use Rattle.memory.specs.Range.{GoodLayout, EntryIn, TableIn, Ranged, MemoryType
 use Rattle.memory.specs.Page.{unmapped, pageOf, offsetOf}
 use Rattle.memory_map.specs.Mirroring.{ciramBanks, nametablePage, mirrorPages, setMirroring}
 use Rattle.memory_map.specs.New.{unmappedMemory, newMemory}
-use Rattle.memory_map.specs.Windows.{withFlag, banksOf, modulo, windowBase, regionPage, eachPage, showPages, mapPages, unmapPages}
+use Rattle.memory_map.specs.Windows.{rustWithFlag, withFlag, banksOf, modulo, windowBase, regionPage, eachPage, showPages, mapPages, unmapPages}
 use Rattle.memory_map.specs.Windows.{setWritable, mapPrg, mapChr, unmapPrg, setPrgWritable}
 use Rattle.memory.proofs.Laws.Layout.{region-ends, pages-le, layout-good}
 use Rattle.limits.proofs.Each.{each-set, each-replicate}
@@ -46,9 +47,13 @@ pub unmapped-in : (n : ℕ) → 0 < n → EntryIn n unmapped
 unmapped-in n h = record { pageStart = refl; inside = omega arith; clear = refl }
 
 pub flag-in : (n : ℕ) (w : Bool) (p : Page) → EntryIn n p → EntryIn n (withFlag w p)
-flag-in n w p e =
-    let o : offsetOf (withFlag w p) ≡ offsetOf p = offset-page (offsetOf p) w (omega arith) in
-    record { pageStart = rw o (e .pageStart); inside = rw o (e .inside); clear = bit-page (offsetOf p) w }
+flag-in n w p e = by (eqb (p .0) 0)
+  where
+    by : (t : Bool) → EntryIn n (cond t p (rustWithFlag w p))
+    by true = e
+    by false =
+        let o : offsetOf (rustWithFlag w p) ≡ offsetOf p = offset-page (offsetOf p) w (omega arith) in
+        record { pageStart = rw o (e .pageStart); inside = rw o (e .inside); clear = bit-page (offsetOf p) w }
 
 -- ---- tables
 
@@ -61,15 +66,51 @@ each-other k f slot (suc n) t j out =
     getD-set-other (eachPage k f slot n t) ((slot + n) % k) j _ unmapped (out n (omega arith))
     ∙ each-other k f slot n t j (λ i h. out i (omega arith))
 
--- a step that keeps each entry in the arena keeps the table's
+-- an entry inside the window is what the step makes of it
+pub each-same : (k : ℕ) (f : ℕ → Page → Page) (slot n : ℕ) (l : List Page) (i : ℕ) → slot + n ≤ k → length l ≡ k → i < n
+    → getD (eachPage k f slot n l) (slot + i) unmapped ≡ f i (getD l (slot + i) unmapped)
+unfolding eachPage
+each-same k f slot zero l i s h b = absurd (omega arith)
+each-same k f slot (suc n) l i s h b =
+    let at : (slot + n) % k ≡ slot + n = mod-eq-of-lt (omega arith) in
+    rw at (by (ℕ-discrete i n) (each-same k f slot n l i (omega arith) h))
+  where
+    by : Dec (i ≡ n) → (i < n → getD (eachPage k f slot n l) (slot + i) unmapped ≡ f i (getD l (slot + i) unmapped))
+        → getD (set (eachPage k f slot n l) (slot + n) (f n (getD (eachPage k f slot n l) (slot + n) unmapped))) (slot + i) unmapped
+        ≡ f i (getD l (slot + i) unmapped)
+    by (yes e) ih =
+        let old = eachPage k f slot n l in
+        let long : length old ≡ k = length-each k f slot n l ∙ h in
+        let apart : (j : ℕ) → j < n → slot + n ≡ (slot + j) % k → ⊥ =
+        λ j z x. absurd (omega (arith, mod-eq-of-lt {n = slot + j} {m = k} (omega arith))) in
+        rw e
+        (getD-set-same old (slot + n) (f n (getD old (slot + n) unmapped)) unmapped (omega arith)
+        ∙ ap (f n) (each-other k f slot n l (slot + n) apart))
+    by (no ne) ih =
+        let old = eachPage k f slot n l in
+        getD-set-other old (slot + n) (slot + i) (f n (getD old (slot + n) unmapped)) unmapped (λ x. ne (omega arith))
+        ∙ ih (omega (arith, ne))
+
+-- what a step keeps of each entry it keeps of those entries of a table that Q names
+each-of : (P : Page → Type 0) (Q : ℕ → Type 0) (k : ℕ) (f : ℕ → Page → Page) → ((j : ℕ) → Q (j % k))
+    → ((i : ℕ) (p : Page) → P p → P (f i p)) → (slot n : ℕ) (t : List Page)
+    → ((j : ℕ) → Q j → P (getD t j unmapped)) → (j : ℕ) → Q j → P (getD (eachPage k f slot n t) j unmapped)
+unfolding eachPage
+each-of P Q k f inside good slot zero t h j q = h j q
+each-of P Q k f inside good slot (suc n) t h j q =
+    let before = each-of P Q k f inside good slot n t h in
+    let new = good n _ (before ((slot + n) % k) (inside (slot + n))) in
+    each-set P unmapped (eachPage k f slot n t) ((slot + n) % k) _ new j (before j q)
+
+-- of all entries
+pub each-holds : (P : Page → Type 0) (k : ℕ) (f : ℕ → Page → Page) → ((i : ℕ) (p : Page) → P p → P (f i p)) → (slot n : ℕ) (t : List Page)
+    → ((j : ℕ) → P (getD t j unmapped)) → (j : ℕ) → P (getD (eachPage k f slot n t) j unmapped)
+each-holds P k f good slot n t h j = each-of P (λ (j : ℕ). Unit {0}) k f (λ j. tt) good slot n t (λ j q. h j) j tt
+
+-- of those of a table of k, that they lie in the arena
 pub each-in : (n k : ℕ) (f : ℕ → Page → Page) → 0 < k → ((i : ℕ) (p : Page) → EntryIn n p → EntryIn n (f i p))
     → (slot m : ℕ) (t : List Page) → TableIn n k t → TableIn n k (eachPage k f slot m t)
-unfolding eachPage
-each-in n k f some good slot zero t all = all
-each-in n k f some good slot (suc m) t all =
-    let before = each-in n k f some good slot m t all in
-    let new = good m _ (before ((slot + m) % k) (mod-lt (slot + m) some)) in
-    λ i h. each-set (EntryIn n) unmapped (eachPage k f slot m t) ((slot + m) % k) _ new i (before i h)
+each-in n k f some good = each-of (EntryIn n) (λ (j : ℕ). j < k) k f (λ j. mod-lt j some) good
 
 -- ---- regions of whole pages
 
@@ -205,67 +246,68 @@ ranged-new s e =
 
 -- ---- what the types say stays: each step changes one table, by `eachPage`
 
-page-word : (o : ℕ) (w : Bool) → pageOf o w .0 < 2 ^ 32
+abbrev Word : Page → Type 0
+Word p = p .0 < 2 ^ 32
+
+page-word : (o : ℕ) (w : Bool) → Word (pageOf o w)
 page-word o true = omega arith
 page-word o false = omega arith
 
-region-word : (r : Region) (o : ℕ) → regionPage r o .0 < 2 ^ 32
+region-word : (r : Region) (o : ℕ) → Word (regionPage r o)
 unfolding regionPage
 region-word r o = go (eqb (r .len) 0)
   where
-    go : (t : Bool) → cond t unmapped (pageOf (r .start + o % r .len) (r .writable)) .0 < 2 ^ 32
+    go : (t : Bool) → Word (cond t unmapped (pageOf (r .start + o % r .len) (r .writable)))
     go true = omega arith
     go false = page-word (r .start + o % r .len) (r .writable)
 
--- entries made of 32 bits keep a table of them
-each-words : (k : ℕ) (f : ℕ → Page → Page) → ((i : ℕ) (p : Page) → f i p .0 < 2 ^ 32) → (slot n : ℕ) (t : List Page)
-    → ((j : ℕ) → getD t j unmapped .0 < 2 ^ 32) → (j : ℕ) → getD (eachPage k f slot n t) j unmapped .0 < 2 ^ 32
-unfolding eachPage
-each-words k f good slot zero t h j = h j
-each-words k f good slot (suc n) t h j =
-    each-set (λ (p : Page). p .0 < 2 ^ 32) unmapped (eachPage k f slot n t) ((slot + n) % k) _ (good n _) j
-    (each-words k f good slot n t h j)
+flag-word : (w : Bool) (p : Page) → Word p → Word (withFlag w p)
+flag-word w p h = go (eqb (p .0) 0)
+  where
+    go : (t : Bool) → Word (cond t p (rustWithFlag w p))
+    go true = h
+    go false = page-word (offsetOf p) w
 
 module _ (m : Memory) (q : MemoryTyped m) where
-  prg-typed : (f : ℕ → Page → Page) → ((i : ℕ) (p : Page) → f i p .0 < 2 ^ 32) → (slot n : ℕ)
+  prg-typed : (f : ℕ → Page → Page) → ((i : ℕ) (p : Page) → Word p → Word (f i p)) → (slot n : ℕ)
       → MemoryTyped (withPrgPages m (eachPage 64 f slot n (m .«prg_pages»)))
   prg-typed f good slot n =
       record {
         prg = length-each 64 f slot n (m .«prg_pages») ∙ q .prg;
         chr = q .chr;
-        «prg-words» = each-words 64 f good slot n (m .«prg_pages») (q .«prg-words»);
+        «prg-words» = each-holds Word 64 f good slot n (m .«prg_pages») (q .«prg-words»);
         «chr-words» = q .«chr-words»;
       }
 
-  chr-typed : (f : ℕ → Page → Page) → ((i : ℕ) (p : Page) → f i p .0 < 2 ^ 32) → (slot n : ℕ)
+  chr-typed : (f : ℕ → Page → Page) → ((i : ℕ) (p : Page) → Word p → Word (f i p)) → (slot n : ℕ)
       → MemoryTyped (withChrPages m (eachPage 16 f slot n (m .«chr_pages»)))
   chr-typed f good slot n =
       record {
         prg = q .prg;
         chr = length-each 16 f slot n (m .«chr_pages») ∙ q .chr;
         «prg-words» = q .«prg-words»;
-        «chr-words» = each-words 16 f good slot n (m .«chr_pages») (q .«chr-words»);
+        «chr-words» = each-holds Word 16 f good slot n (m .«chr_pages») (q .«chr-words»);
       }
 
   pub typed-map-prg : (addr s : ℕ) (b : ℤ) (src : Src) → MemoryTyped (mapPrg m addr s b src)
   unfolding mapPrg mapPages showPages
-  typed-map-prg addr s b src = prg-typed _ (λ i p. region-word _ _) (addr / 1024) (s / 1024)
+  typed-map-prg addr s b src = prg-typed _ (λ i p h. region-word _ _) (addr / 1024) (s / 1024)
 
   pub typed-map-chr : (addr s : ℕ) (b : ℤ) (src : Src) → MemoryTyped (mapChr m addr s b src)
   unfolding mapChr mapPages showPages
-  typed-map-chr addr s b src = chr-typed _ (λ i p. region-word _ _) (addr / 1024) (s / 1024)
+  typed-map-chr addr s b src = chr-typed _ (λ i p h. region-word _ _) (addr / 1024) (s / 1024)
 
   pub typed-unmap-prg : (addr s : ℕ) → MemoryTyped (unmapPrg m addr s)
   unfolding unmapPrg unmapPages
-  typed-unmap-prg addr s = prg-typed _ (λ i p. omega arith) (addr / 1024) (s / 1024)
+  typed-unmap-prg addr s = prg-typed _ (λ i p h. omega arith) (addr / 1024) (s / 1024)
 
   pub typed-set-writable : (addr s : ℕ) (w : Bool) → MemoryTyped (setPrgWritable m addr s w)
   unfolding setPrgWritable setWritable
-  typed-set-writable addr s w = prg-typed _ (λ i p. page-word _ w) (addr / 1024) (s / 1024)
+  typed-set-writable addr s w = prg-typed _ (λ i p h. flag-word w p h) (addr / 1024) (s / 1024)
 
   pub typed-mirroring : (k : Mirroring) → MemoryTyped (setMirroring m k)
   unfolding setMirroring mirrorPages nametablePage
-  typed-mirroring k = chr-typed _ (λ i p. page-word _ true) 8 8
+  typed-mirroring k = chr-typed _ (λ i p h. page-word _ true) 8 8
 
 pub typed-new : (s : MemoryLayout) → MemoryTyped (newMemory s)
 unfolding newMemory unmappedMemory
@@ -274,7 +316,7 @@ typed-new s =
     (record {
       prg = refl;
       chr = refl;
-      «prg-words» = each-replicate (λ (p : Page). p .0 < 2 ^ 32) 64 unmapped unmapped (omega arith) (omega arith);
-      «chr-words» = each-replicate (λ (p : Page). p .0 < 2 ^ 32) 16 unmapped unmapped (omega arith) (omega arith);
+      «prg-words» = each-replicate Word 64 unmapped unmapped (omega arith) (omega arith);
+      «chr-words» = each-replicate Word 16 unmapped unmapped (omega arith) (omega arith);
     })
     Horizontal

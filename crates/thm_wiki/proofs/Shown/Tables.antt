@@ -4,7 +4,6 @@ use mathlib.Core.Path.{_≡_, refl, ap, _∙_}
 use mathlib.Core.Bool.{Bool, true, false, cond}
 use mathlib.Core.List.{List}
 use native.Mathlib.Decide.{ℕ-discrete}
-use native.Mathlib.Nat.{mod-eq-of-lt}
 use native.Mathlib.Omega.{arith}
 use borrow.Author.Tests.{le-ltb}
 use lib.Dec.{ltb}
@@ -22,7 +21,7 @@ use Rattle.memory_map.specs.Mirroring.{ciramBanks, nametablePage, mirrorPages, 
 use Rattle.memory_map.specs.Windows.{windowBase, regionPage, withFlag, eachPage, showPages, mapPages, unmapPages, setWritable}
 use Rattle.memory_map.specs.Windows.{mapPrg, unmapPrg, setPrgWritable}
 use Rattle.memory_map.proofs.Laws.Windows.{length-each}
-use Rattle.memory_map.proofs.Laws.Memory.{each-other}
+use Rattle.memory_map.proofs.Laws.Memory.{each-other, each-same}
 use Rattle.board_chip.specs.declared.namco163.Namco163.{Namco163}
 use Rattle.board_chip.specs.Namco163.{is163}
 use Rattle.board_chip.specs.Detection.{prgRamReadable, prgRamWritable}
@@ -37,32 +36,7 @@ chosen : {A B : Type 0} (f : A → B) (t : Bool) (x y : A) → cond t (f x) (f y
 chosen f true x y = refl
 chosen f false x y = refl
 
--- ---- a step of a table of k entries, and steps one after the other
-
--- M1: an entry inside the window
-each-same : (k : ℕ) (f : ℕ → Page → Page) (slot n : ℕ) (l : List Page) (i : ℕ) → slot + n ≤ k → length l ≡ k → i < n
-    → getD (eachPage k f slot n l) (slot + i) unmapped ≡ f i (getD l (slot + i) unmapped)
-unfolding eachPage
-each-same k f slot zero l i s h b = absurd (omega arith)
-each-same k f slot (suc n) l i s h b =
-    let at : (slot + n) % k ≡ slot + n = mod-eq-of-lt (omega arith) in
-    rw at (by (ℕ-discrete i n) (each-same k f slot n l i (omega arith) h))
-  where
-    by : Dec (i ≡ n) → (i < n → getD (eachPage k f slot n l) (slot + i) unmapped ≡ f i (getD l (slot + i) unmapped))
-        → getD (set (eachPage k f slot n l) (slot + n) (f n (getD (eachPage k f slot n l) (slot + n) unmapped))) (slot + i) unmapped
-        ≡ f i (getD l (slot + i) unmapped)
-    by (yes e) ih =
-        let old = eachPage k f slot n l in
-        let long : length old ≡ k = length-each k f slot n l ∙ h in
-        let apart : (j : ℕ) → j < n → slot + n ≡ (slot + j) % k → ⊥ =
-        λ j z x. absurd (omega (arith, mod-eq-of-lt {n = slot + j} {m = k} (omega arith))) in
-        rw e
-        (getD-set-same old (slot + n) (f n (getD old (slot + n) unmapped)) unmapped (omega arith)
-        ∙ ap (f n) (each-other k f slot n l (slot + n) apart))
-    by (no ne) ih =
-        let old = eachPage k f slot n l in
-        getD-set-other old (slot + n) (slot + i) (f n (getD old (slot + n) unmapped)) unmapped (λ x. ne (omega arith))
-        ∙ ih (omega (arith, ne))
+-- ---- steps of a table, one after the other
 
 -- the first c of the steps
 unfoldable steps : (ℕ → List Page → List Page) → ℕ → List Page → List Page
