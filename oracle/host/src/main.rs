@@ -1,5 +1,5 @@
 // SPDX-License-Identifier: MIT OR Apache-2.0
-//! `host-test`: the C archive against the unchanged Rust, call by call.
+//! `host-test`: the C archive against the oracle, which is the unchanged Rust with M5's amendment, call by call.
 
 mod archive;
 mod counts;

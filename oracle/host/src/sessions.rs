@@ -18,11 +18,16 @@ use oracle::{
 /// Calls that the generator makes at a time.
 const PIECE: usize = 2_000;
 
-const WANTED: [&str; 5] = ["loads of a 163", "loads of a detecting 163", "loads of a 175", "loads of a 340", "loads of an Unknown"];
+const LOADS: [&str; 5] = ["loads of a 163", "loads of a detecting 163", "loads of a 175", "loads of a 340", "loads of an Unknown"];
+const BARE_LOADS: &str = "loads without PRG-RAM";
+const BARE_STORES: &str = "writes to 6000..7FFF after a load without PRG-RAM";
+const BARE_REMAPS: &str = "writes to 8000..F7FF after a load without PRG-RAM";
+const BARE_READS: &str = "reads of 6000..7FFF after a load without PRG-RAM";
 
 /// Plays sessions until that many calls are made.
 pub fn play(pair: &mut Pair, rng: &mut Rng, calls: u64) -> Compared<()> {
-    pair.counts.want(&WANTED);
+    pair.counts.want(&LOADS);
+    pair.counts.want(&[BARE_LOADS, BARE_STORES, BARE_REMAPS, BARE_READS]);
     let end = pair.counts.calls() + calls;
     // Whether the host changes state and arena by itself in this session.
     let mut edits = false;
@@ -54,7 +59,21 @@ fn step(pair: &mut Pair, rng: &mut Rng, call: Call, edits: bool) -> Compared<()>
             return Ok(());
         }
     };
-    draw::make(pair, rng, call).map(|_| ())
+    let word = draw::make(pair, rng, call)?;
+    if word as u8 == 0 && pair.host().session().is_some_and(|session| session.layout().prg_ram == 0) {
+        count_bare(pair, call);
+    }
+    Ok(())
+}
+
+/// M5: an accepted call on a board without PRG-RAM.
+fn count_bare(pair: &mut Pair, call: HostCall) {
+    match call {
+        HostCall::Write(0x6000..=0x7FFF, _) => pair.counts.reach(BARE_STORES),
+        HostCall::Write(0x8000..=0xF7FF, _) => pair.counts.reach(BARE_REMAPS),
+        HostCall::Read(0x6000..=0x7FFF) => pair.counts.reach(BARE_READS),
+        _ => (),
+    }
 }
 
 /// A call that no host has. A refused one alters nothing.
@@ -93,12 +112,13 @@ fn load(pair: &mut Pair, rng: &mut Rng, named: Load) -> Compared<()> {
     let bytes = rng.bytes(len);
     pair.edit(|session| session.lend_arena(bytes.into()));
     pair.counts.reach(loaded(&load));
+    pair.counts.reach_if(load.prg_ram == 0, BARE_LOADS);
     Ok(())
 }
 
 /// Which of the wanted loads an accepted one is.
 fn loaded(load: &Load) -> &'static str {
-    let [fixed, detecting, n175, n340, unknown] = WANTED;
+    let [fixed, detecting, n175, n340, unknown] = LOADS;
     match (load.mapper, load.submapper) {
         (19, _) if load.in_database != 0 => fixed,
         (19, _) => detecting,

@@ -21,7 +21,7 @@ use tetanes::{
     memory::Page,
 };
 
-/// A state apart from its arena.
+/// A state apart from its arena, of which it says only whether the zero page is zeros.
 #[derive(Clone)]
 struct View {
     chip: Namco163,
@@ -29,6 +29,7 @@ struct View {
     used: usize,
     prg: [Page; 64],
     chr: [Page; 16],
+    zeros: bool,
 }
 
 impl View {
@@ -39,6 +40,7 @@ impl View {
             used: *session.memory.raw_battery_ext_len(),
             prg: *session.memory.prg_pages(),
             chr: *session.memory.chr_pages(),
+            zeros: session.arena()[..PAGE as usize].iter().all(|byte| *byte == 0),
         }
     }
 

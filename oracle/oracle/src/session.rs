@@ -1,5 +1,6 @@
 // SPDX-License-Identifier: MIT OR Apache-2.0
-//! A loaded cartridge: the Rust's `Namco163` and `Memory`, and the calls, put together from theirs (L7 to L9), with the refusals N.
+//! A loaded cartridge: the Rust's `Namco163` and `Memory`, and the calls, put together from theirs (L7 to L9), with the refusals N. What
+//! the Rust does is taken as it is, but for one amendment after a remapping (M5, `leave_unmapped`).
 //!
 //! The Rust's `Memory` holds both a part of the state (R8: entries, layout, used length) and the lent arena (`data`). Both can be set
 //! through the accessors, so that a call can be given a state out of range or an arena of another length.
@@ -10,6 +11,7 @@ use crate::{
     range::in_range,
     refusal::Refusal,
 };
+use std::ops::Range;
 use tetanes::{
     cart::{Cart, GameInfo, NesHeader},
     common::ResetKind,
@@ -23,6 +25,8 @@ pub const RUN_LIMIT: u64 = 29_781;
 /// C6: of the longest run.
 pub const MOST_SAMPLES: usize = (14 + RUN_LIMIT as usize) / 15;
 const FIRST_ADDRESS: u16 = 0x4800;
+/// M5, L13: the PRG entries of the window at 6000.
+pub const RAM_WINDOW: Range<usize> = 24..32;
 
 #[derive(Clone)]
 pub struct Session {
@@ -68,9 +72,22 @@ impl Session {
         Refusal::NoReserve.when(load.mapper == 19 && load.battery == 0)?;
         Refusal::ArenaLength.when(arena_len != layout.arena_len())?;
 
+        let mut session = Self::unamended(load);
+        leave_unmapped(&mut session.memory);
+        Ok(session)
+    }
+
+    /// What the Rust by itself makes of an accepted load.
+    pub fn unamended(load: &Load) -> Self {
         let mut cart = cart(load);
         let Ok(chip) = Namco163::load(&mut cart);
-        Ok(Self { chip, memory: cart.memory })
+        Self { chip, memory: cart.memory }
+    }
+
+    /// L13, M5: makes both tables anew. It is a step of a load and of a write, and no call; states that are lent are made with it.
+    pub fn remap(&mut self) {
+        self.chip.update_banks(&mut self.memory);
+        leave_unmapped(&mut self.memory);
     }
 
     pub fn layout(&self) -> Layout {
@@ -98,8 +115,13 @@ impl Session {
     pub fn write(&mut self, addr: u16, val: u8) -> Result<Written, Refusal> {
         self.refuse_cpu(addr)?;
         let (prg, chr) = (*self.memory.prg_pages(), *self.memory.chr_pages());
+        let board = self.chip.board;
         self.memory.prg_write(addr, val);
         self.chip.write_register(&mut self.memory, addr, val);
+        // L11: the writes that remap. After any other, entries stay as they were lent (R10).
+        if (0x8000..=0xF7FF).contains(&addr) || self.chip.board != board {
+            leave_unmapped(&mut self.memory);
+        }
         Ok(Written { prg: Changed::between(&prg, self.memory.prg_pages()), chr: Changed::between(&chr, self.memory.chr_pages()) })
     }
 
@@ -205,6 +227,19 @@ impl Session {
     fn refuse_battery(&self) -> Result<(), Refusal> {
         self.refuse_arena()?;
         Refusal::NoBattery.when(*self.memory.raw_battery_ext_len() == 0)
+    }
+}
+
+/// M5: the one amendment. Where PRG-RAM has no page, the Rust's remapping can give the flag to the unmapped entries of the window at 6000;
+/// such an entry stays unmapped. With a page of PRG-RAM or more this does nothing.
+fn leave_unmapped(memory: &mut Memory) {
+    if !memory.raw_prg_ram().is_empty() {
+        return;
+    }
+    for page in &mut memory.raw_prg_pages_mut()[RAM_WINDOW] {
+        if entry(*page) == (0, true) {
+            *page = Page::UNMAPPED;
+        }
     }
 }
 

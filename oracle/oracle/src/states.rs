@@ -6,12 +6,11 @@ use crate::{
     layout::{Layout, PAGE},
     range::LEVEL_LIMIT,
     rng::Rng,
-    session::{SOUND_RAM, Session},
+    session::{RAM_WINDOW, SOUND_RAM, Session},
 };
 use std::array;
 use tetanes::{
     m019_namco163::{Audio, Namco163, Regs},
-    mapper::Map,
     memory::{Memory, MemoryLayout, Page},
 };
 
@@ -21,12 +20,15 @@ pub fn any(rng: &mut Rng) -> Session {
     let mut session = Session { chip: chip(rng), memory: memory(rng, &layout) };
     match rng.below(4) {
         // As a write leaves the entries, or nearly.
-        0 => session.chip.update_banks(&mut session.memory),
+        0 => session.remap(),
         1 => {
-            session.chip.update_banks(&mut session.memory);
+            session.remap();
             some_entries(rng, &mut session.memory, &layout, 4);
         }
         _ => some_entries(rng, &mut session.memory, &layout, 1),
+    }
+    if layout.prg_ram == 0 && rng.once_in(2) {
+        writable_zero_page(&mut session.memory);
     }
     session
 }
@@ -34,7 +36,7 @@ pub fn any(rng: &mut Rng) -> Session {
 fn layout(rng: &mut Rng) -> Layout {
     let mut layout = Layout {
         prg_rom: rng.pick(&[0, 1, 1, 3, 7, 8, 8, 9, 16, 17, 24]),
-        prg_ram: rng.pick(&[0, 1, 2, 3, 8, 8, 9]),
+        prg_ram: rng.pick(&[0, 0, 1, 2, 3, 8, 8, 9]),
         battery: rng.below(2),
         chr: rng.pick(&[0, 1, 2, 3, 8, 8, 9]),
         chr_ram: rng.once_in(2),
@@ -116,6 +118,13 @@ fn memory(rng: &mut Rng, layout: &Layout) -> Memory {
     *memory.raw_prg_pages_mut() = array::from_fn(|_| Page::UNMAPPED);
     *memory.raw_chr_pages_mut() = array::from_fn(|_| Page::UNMAPPED);
     memory
+}
+
+/// M5, R10: lends the zero page with the flag at 6000, as images of earlier versions have it where there is no PRG-RAM.
+fn writable_zero_page(memory: &mut Memory) {
+    for page in &mut memory.raw_prg_pages_mut()[RAM_WINDOW] {
+        *page.raw_mut() = 1 << 31;
+    }
 }
 
 /// Lends one entry in that many: any page of the arena, with or without the flag.

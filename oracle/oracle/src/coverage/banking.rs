@@ -2,7 +2,7 @@
 //! CPU writes: ranges and their edges, boards and how they are found, slots, masks, mirrorings, stores.
 
 use super::{Counter, Played, View};
-use crate::text::Call;
+use crate::{session::RAM_WINDOW, text::Call};
 use tetanes::{m019_namco163::Board, memory::Page, ppu::Mirroring};
 
 /// L11's rows; 8000..BFFF is two, by the selects of L12.
@@ -75,19 +75,36 @@ pub fn classes() -> Vec<String> {
         classes.extend(MIRRORINGS.map(|mirroring| format!("{mirroring:?} on {pages} CIRAM pages")));
     }
     classes.extend(stores());
+    classes.extend(boards_without_ram());
     classes
 }
 
 const MIRRORINGS: [Mirroring; 5] =
     [Mirroring::Vertical, Mirroring::Horizontal, Mirroring::SingleScreenA, Mirroring::SingleScreenB, Mirroring::FourScreen];
 
+/// Boards, the 175 by its protect byte, which lets stores into PRG-RAM through where it is odd.
+const RAM_KINDS: [&str; 5] = ["Unknown", "163", "175, protect even", "175, protect odd", "340"];
+
+fn ram_kind(view: &View) -> &'static str {
+    match view.chip.board {
+        Board::Unknown => "Unknown",
+        Board::Namco163 => "163",
+        Board::Namco175 if view.chip.regs.prg_ram_protect & 1 == 0 => "175, protect even",
+        Board::Namco175 => "175, protect odd",
+        Board::Namco340 => "340",
+    }
+}
+
 /// What can become of a byte written to 6000..7FFF.
 fn stores() -> Vec<String> {
-    let stored =
-        ["163", "175"].iter().flat_map(|board| ["PRG-RAM", "the zero page"].map(|place| format!("{board}: 6000 stores into {place}")));
-    let dropped = ["175: 6000 drops, PRG-RAM shown", "175: 6000 drops, the zero page shown"].map(String::from);
-    let unmapped = ["Unknown", "340"].map(|board| format!("{board}: 6000 drops, the zero page shown"));
-    stored.chain(dropped).chain(unmapped).collect()
+    let ram = ["163: 6000 stores into PRG-RAM", "175: 6000 stores into PRG-RAM", "175: 6000 drops, PRG-RAM shown"].map(String::from);
+    let unmapped = RAM_KINDS.map(|kind| format!("{kind}: 6000 drops, the zero page shown"));
+    ram.into_iter().chain(unmapped).collect()
+}
+
+fn boards_without_ram() -> impl Iterator<Item = String> {
+    let changes = CHANGES.into_iter().map(|(_, from, to)| format!("{from} to {to} without PRG-RAM"));
+    changes.chain(RAM_KINDS.map(|kind| format!("{kind}: remapped without PRG-RAM")))
 }
 
 pub fn observe(played: &Played, counter: &mut Counter) {
@@ -98,6 +115,7 @@ pub fn observe(played: &Played, counter: &mut Counter) {
             boards(before, after, *addr, *val, counter);
             slots(before, after, *addr, *val, counter);
             masks(before, after, counter);
+            without_ram(before, after, *addr, counter);
             store(before, *addr, counter);
         }
         Call::ResetSoft | Call::ResetHard => counter.hit_if(settled(before), "a settled 340 is reset"),
@@ -114,6 +132,11 @@ fn never_from_a_load(after: &View, counter: &mut Counter) {
     counter.never(slots.any(|(flag, bank)| *flag && bank > 1), "a CIRAM bank above 1");
     counter.never(after.prg[..24].iter().any(|page| *page != Page::UNMAPPED), "PRG 0..23 mapped");
     counter.never(after.board() == "Unknown" && !after.chip.auto_detect_board, "an Unknown that does not detect");
+    let ram_window = after.prg[RAM_WINDOW].iter().any(|page| *page != Page::UNMAPPED);
+    counter.never(after.layout.prg_ram == 0 && ram_window, "PRG 24..31 mapped without PRG-RAM");
+    let writable = after.prg.iter().chain(&after.chr).any(|page| page.offset() == 0 && page.is_writable());
+    counter.never(writable, "the zero page with the flag");
+    counter.never(!after.zeros, "a byte other than 0 in the zero page");
 }
 
 fn row(addr: u16) -> &'static str {
@@ -193,6 +216,17 @@ fn masks(before: &View, after: &View, counter: &mut Counter) {
     counter.hit_if(fresh_from_reset && nametables && stays_163, "entries changed by the write after a reset");
 }
 
+/// M5: boards that a cartridge without PRG-RAM goes through.
+fn without_ram(before: &View, after: &View, addr: u16, counter: &mut Counter) {
+    if after.layout.prg_ram > 0 {
+        return;
+    }
+    let (from, to) = (before.board(), after.board());
+    counter.hit_if(from != to, format!("{from} to {to} without PRG-RAM"));
+    let remapped = (0x8000..=0xF7FF).contains(&addr) || from != to;
+    counter.hit_if(remapped, format!("{}: remapped without PRG-RAM", ram_kind(after)));
+}
+
 fn store(before: &View, addr: u16, counter: &mut Counter) {
     let (board, page) = (before.board(), before.prg_entry(addr));
     if !(0x6000..0x8000).contains(&addr) {
@@ -200,9 +234,10 @@ fn store(before: &View, addr: u16, counter: &mut Counter) {
         return;
     }
     let shown = before.shows(page);
-    counter.hit(if page.is_writable() {
-        format!("{board}: 6000 stores into {shown}")
-    } else {
-        format!("{board}: 6000 drops, {shown} shown")
+    counter.never(page.is_writable() && shown == "the zero page", "a store into the zero page");
+    counter.hit(match (page.is_writable(), shown) {
+        (true, _) => format!("{board}: 6000 stores into {shown}"),
+        (false, "the zero page") => format!("{}: 6000 drops, {shown} shown", ram_kind(before)),
+        (false, _) => format!("{board}: 6000 drops, {shown} shown"),
     });
 }

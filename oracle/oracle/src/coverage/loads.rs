@@ -28,6 +28,7 @@ fn sizes(load: &Load) -> [(&'static str, u64, u64); 5] {
 pub fn classes() -> Vec<String> {
     let mut classes: Vec<String> = [
         "a call without a cartridge",
+        "load accepted",
         "load over a cartridge",
         "load refused without a cartridge",
         "load refused over a cartridge",
@@ -72,6 +73,7 @@ pub fn observe(played: &Played, counter: &mut Counter) {
 fn accepted(played: &Played, load: &Load, counter: &mut Counter) {
     let Some(after) = played.after else { return };
     let detecting = if after.chip.auto_detect_board { "detecting " } else { "" };
+    counter.hit("load accepted");
     counter.hit(format!("load of a {detecting}{}", after.board()));
     counter.hit_if(played.before.is_some(), "load over a cartridge");
     counter.hit_if(after.board() == "Unknown" && load.in_database != 0, "load of an Unknown with a database entry");

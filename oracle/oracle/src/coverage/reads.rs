@@ -1,7 +1,7 @@
 // SPDX-License-Identifier: MIT OR Apache-2.0
 //! Reads, peeks and addresses: edges of every range, the sound port, CHR.
 
-use super::{Counter, Played, View};
+use super::{BOARDS, Counter, Played, View};
 use crate::text::Call;
 
 /// First and last address of each register range, each 800 long.
@@ -23,6 +23,7 @@ pub fn classes() -> Vec<String> {
         "CHR write into CIRAM",
         "CHR write dropped by CHR-ROM",
         "CHR write dropped by the zero page",
+        "CHR read of the zero page, written",
     ]
     .map(String::from)
     .into();
@@ -32,8 +33,9 @@ pub fn classes() -> Vec<String> {
         classes.push(format!("{name} refused below 47FF"));
     }
     classes.extend(["163", "175", "340"].map(|board| format!("read moves the sound address of a {board}")));
-    classes.extend(["PRG-ROM", "PRG-RAM", "the zero page"].map(|shown| format!("read of {shown}, not 0")));
-    classes.extend(["CHR-ROM", "CHR-RAM", "CIRAM", "the zero page"].map(|shown| format!("CHR read of {shown}, not 0")));
+    classes.extend(["PRG-ROM", "PRG-RAM"].map(|shown| format!("read of {shown}, not 0")));
+    classes.extend(["CHR-ROM", "CHR-RAM", "CIRAM"].map(|shown| format!("CHR read of {shown}, not 0")));
+    classes.extend(BOARDS.map(|board| format!("{board}: 6000 reads the zero page, written")));
     classes.extend((0..16).flat_map(|entry| [format!("CHR read in entry {entry}"), format!("CHR write in entry {entry}")]));
     classes
 }
@@ -83,14 +85,25 @@ fn read(played: &Played, before: &View, after: &View, addr: u16, counter: &mut C
         }
         0x5000..=0x57FF => counter.hit_if(some, "counter's low byte read, not 0"),
         0x5800..=0x5FFF => counter.hit_if(some, "counter's high byte read, not 0"),
-        _ => counter.hit_if(some, format!("read of {}, not 0", before.shows(before.prg_entry(addr)))),
+        _ => {
+            let shown = before.shows(before.prg_entry(addr));
+            let zero_page = shown == "the zero page";
+            counter.never(some && zero_page, "a read of the zero page, not 0");
+            counter.hit_if(some && !zero_page, format!("read of {shown}, not 0"));
+            let written = addr < 0x8000 && before.chip.prg_ram_written_to;
+            counter.hit_if(zero_page && written, format!("{}: 6000 reads the zero page, written", before.board()));
+        }
     }
 }
 
 fn chr_read(played: &Played, before: &View, addr: u16, counter: &mut Counter) {
     counter.hit(format!("CHR read in entry {}", addr / 0x400 % 16));
     counter.hit_if(addr >= 0x4000, "CHR address of 4000 or more");
-    counter.hit_if(played.answer != "ok $00", format!("CHR read of {}, not 0", before.shows(before.chr_entry(addr))));
+    let (shown, some) = (before.shows(before.chr_entry(addr)), played.answer != "ok $00");
+    let zero_page = shown == "the zero page";
+    counter.never(some && zero_page, "a CHR read of the zero page, not 0");
+    counter.hit_if(some && !zero_page, format!("CHR read of {shown}, not 0"));
+    counter.hit_if(zero_page && before.chip.prg_ram_written_to, "CHR read of the zero page, written");
 }
 
 fn chr_write(before: &View, addr: u16, counter: &mut Counter) {

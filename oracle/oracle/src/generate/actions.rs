@@ -212,7 +212,7 @@ fn work_ram(g: &mut Generator) {
     g.write(addr, val);
     let page = g.rng.below(8) as u16 * PAGE as u16;
     let place = page + addr % PAGE as u16;
-    // Without PRG-RAM the byte may be in the zero page, which unmapped CHR entries show, too.
+    // Without PRG-RAM the byte is dropped (M5): it shows neither here nor in unmapped CHR entries, which show the same page (R7).
     let other = g.rng.once_in(3);
     g.say(if other { Call::ChrRead(place) } else { Call::Read(0x6000 + place) });
 }

@@ -1,10 +1,12 @@
 // SPDX-License-Identifier: MIT OR Apache-2.0
-//! Results at the edges of the clauses of docs/SCOPE.md, on the Rust: a file for each letter, and one for L11.
+//! Results at the edges of the clauses of docs/SCOPE.md, on the Rust: a file for each letter, one for L11, and one
+//! for M5 without PRG-RAM.
 
 mod clock;
 mod host;
 mod load;
 mod memory;
+mod no_ram;
 mod records;
 mod refusals;
 mod registers;
@@ -12,9 +14,10 @@ mod sound;
 
 use super::checks::Check;
 
-pub const SECTIONS: [(&str, Check); 8] = [
+pub const SECTIONS: [(&str, Check); 9] = [
     ("R: records", records::check),
     ("M: memory", memory::check),
+    ("M5: carts without PRG-RAM", no_ram::check),
     ("L: load, detection and banking", load::check),
     ("L11: register writes", registers::check),
     ("S: sound", sound::check),

@@ -22,6 +22,9 @@ pub fn coverage(t: &mut Checks) {
         t.holds(&format!("`{class}` is reached"), *count > 0);
     }
     t.eq("reached and not listed", &coverage.unlisted, &Default::default());
+    let (without, loads) = (coverage.counts["load with PRG-RAM of 0 pages"], coverage.counts["load accepted"]);
+    t.holds("a tenth of the accepted loads or more have no PRG-RAM", 10 * without >= loads);
+    println!("coverage: {without} of {loads} accepted loads have no PRG-RAM");
     if let Some((class, count)) = coverage.rarest() {
         println!("coverage: {} classes in {COVERAGE_CALLS} calls, the rarest {count} times ({class})", coverage.counts.len());
     }

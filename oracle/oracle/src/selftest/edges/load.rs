@@ -8,7 +8,6 @@ use crate::selftest::{
 use oracle::layout::Load;
 use tetanes::{
     m019_namco163::{Board, Namco163},
-    mapper::Map,
     ppu::Mirroring,
 };
 
@@ -166,11 +165,11 @@ fn entries_by_registers(t: &mut Checks) {
         flags
     });
     p.chip.prg_banks = [2, 1, 6];
-    p.chip.update_banks(&mut p.memory);
+    p.remap();
     t.eq("PRG", p.prg(0..64), pages("1..24,41w..48w,17..24,9..16,17..24,25..32"));
     t.eq("CHR", p.chr(0..16), pages("33,34,35,51w,37,38,39,34,51w,50w,40,33,51w,50w,40,33"));
     p.chip.board = Board::Namco340;
-    p.chip.update_banks(&mut p.memory);
+    p.remap();
     t.eq("PRG of a 340", p.prg(24..32), pages("0*8"));
     t.eq("CHR of a 340", p.chr(0..16), pages("33,34,35,51w,37,38,39,34,50w,50w,51w,51w,50w,50w,51w,51w"));
 }
@@ -180,7 +179,7 @@ fn ciram_banks(t: &mut Checks) {
     for (ciram, entry) in [(1, "50w"), (2, "51w"), (3, "52w"), (4, "51w")] {
         let mut cart = loaded(Load { ciram: ciram * 1024, ..P });
         (cart.chip.nt_bank_enable[0], cart.chip.chr_banks[0]) = (true, 5);
-        cart.chip.update_banks(&mut cart.memory);
+        cart.remap();
         t.eq(&format!("bank 5 on {ciram} pages"), cart.chr(0..1), pages(entry));
     }
 }

@@ -1,12 +1,12 @@
 // SPDX-License-Identifier: MIT OR Apache-2.0
-//! Results at the edges of the clauses M, on the Rust.
+//! Results at the edges of the clauses M, on the Rust; carts without PRG-RAM have a file of their own.
 
 use crate::selftest::{
     bench::{D, Handy, N175, N340, P, U, loaded, number, pages, refusal, written},
     checks::Checks,
 };
 use oracle::layout::{Load, Region};
-use tetanes::{mapper::Map, ppu::Mirroring};
+use tetanes::ppu::Mirroring;
 
 pub fn check(t: &mut Checks) {
     prg_windows(t);
@@ -63,15 +63,17 @@ fn empty_regions(t: &mut Checks) {
     }
 }
 
-/// M4, and M5 where nothing is mapped.
+/// M4, and M5 where PRG-RAM is mapped and where it is not.
 fn writable(t: &mut Checks) {
     t.eq("CHR-RAM", loaded(Load { chr_ram: 1, ..P }).chr(0..16), pages("42w*16"));
     t.eq("CHR-ROM", loaded(P).chr(0..16), pages("33*16"));
     let bare = |load| Load { prg_ram: 0, ..load };
-    t.eq("163 without PRG-RAM", loaded(bare(P)).prg(24..32), pages("0w*8"));
-    t.eq("175, protect 0", loaded(bare(N175)).prg(24..32), pages("0*8"));
-    for (protect, entries) in [(0xFE, "0*8"), (0x01, "0w*8"), (0xFF, "0w*8")] {
-        t.eq("175 without PRG-RAM", written(bare(N175), &[(0xC000, protect)]).prg(24..32), pages(entries));
+    t.eq("163 without PRG-RAM", loaded(bare(P)).prg(24..32), pages("0*8"));
+    t.eq("175, protect 0", loaded(N175).prg(24..32), pages("41..48"));
+    t.eq("175 without PRG-RAM, protect 0", loaded(bare(N175)).prg(24..32), pages("0*8"));
+    for (protect, entries) in [(0xFE, "41..48"), (0x01, "41w..48w"), (0xFF, "41w..48w")] {
+        t.eq("175", written(N175, &[(0xC000, protect)]).prg(24..32), pages(entries));
+        t.eq("175 without PRG-RAM", written(bare(N175), &[(0xC000, protect)]).prg(24..32), pages("0*8"));
     }
     for load in [U, N340, bare(U), bare(N340)] {
         t.eq("Unknown and 340", loaded(load).prg(24..32), pages("0*8"));
@@ -95,7 +97,7 @@ fn mirrorings(t: &mut Checks) {
     for (mirroring, ciram, entries) in MIRRORINGS {
         let mut cart = loaded(Load { ciram: ciram * 1024, ..N175 });
         cart.chip.mirroring = *mirroring;
-        cart.chip.update_banks(&mut cart.memory);
+        cart.remap();
         let what = format!("{mirroring:?} on {ciram} pages");
         t.eq(&what, cart.chr(8..12), pages(entries));
         t.eq(&what, cart.chr(12..16), pages(entries));

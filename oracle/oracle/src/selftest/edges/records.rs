@@ -97,9 +97,16 @@ fn arena_order(t: &mut Checks) {
     }
 }
 
-/// R7: what is stored in the zero page shows in each unmapped page; M5 lets a 163 without PRG-RAM store there.
+/// R7: an unmapped page takes no store. What a lent entry with the flag (R10) stores in the zero page shows in each unmapped page, and
+/// stays there.
 fn zero_page(t: &mut Checks) {
-    let mut bare = written(Load { prg_ram: 0, chr: 0, ..P }, &[(0x6000, 0xAA), (0x67FF, 0xBB)]);
+    let stores = [(0x6000, 0xAA), (0x67FF, 0xBB)];
+    let mut bare = written(Load { prg_ram: 0, chr: 0, ..P }, &stores);
+    t.eq("unmapped", (bare.get(0x6000), bare.get(0x67FF), number(bare.chr_read(0x0000))), (0, 0, Ok(0)));
+    bare.lend_prg(24, "0w*8");
+    bare.puts(&stores);
+    bare.put(0xE000, 0x00);
+    bare.puts(&[(0x6000, 0x11), (0x63FF, 0x22)]);
     for (addr, byte) in [(0x6000, 0xAA), (0x6400, 0xAA), (0x7C00, 0xAA), (0x63FF, 0xBB)] {
         t.eq(&format!("read {addr:04X}"), bare.get(addr), byte);
     }
@@ -108,7 +115,7 @@ fn zero_page(t: &mut Checks) {
         t.eq(&format!("CHR {addr:04X}"), number(bare.chr_read(addr)), Ok(0xAA));
     }
     let mut d = written(Load { prg_ram: 0, ..D }, &[(0x6000, 0x5A), (0xE000, 0x80)]);
-    t.eq("D without PRG-RAM", (d.chip.board, d.get(0x6000)), (Board::Namco340, 0x5A));
+    t.eq("D without PRG-RAM", (d.chip.board, d.get(0x6000)), (Board::Namco340, 0));
 }
 
 type Lending = fn(&mut Session);
