@@ -6,11 +6,12 @@
 
 #include "namco163.h"
 
-/* T0: layout P, 52 pages. */
-enum { ARENA = 53248, SAMPLES = 4 * NAMCO163_MOST_SAMPLES + 3 };
+/* T0: layout P, 52 pages; BARE is without PRG-RAM, 44 pages. */
+enum { ARENA = 53248, BARE = 45056, SAMPLES = 4 * NAMCO163_MOST_SAMPLES + 3 };
 
 static uint8_t image[NAMCO163_IMAGE_SIZE + 1], arena[ARENA + 1], samples[SAMPLES];
 static uint8_t image_before[sizeof image], arena_before[sizeof arena], samples_before[sizeof samples];
+static size_t lent = ARENA; /* how much of the arena reads and writes get: as much as the last load */
 static int checks, failures;
 
 #define CHECK(what) check(what, #what, __LINE__)
@@ -31,11 +32,16 @@ static void equal(uint64_t got, uint64_t expected, const char *what, int line) {
 }
 
 static uint64_t load(uint64_t mapper, uint64_t known, uint64_t prg_rom, uint64_t battery) {
+    lent = ARENA;
     return namco163_load(image, NAMCO163_IMAGE_SIZE, arena, ARENA, mapper, 0, 0, known, prg_rom, 8192, battery, 8192, 0, 2048);
 }
-static uint64_t read_at(unsigned addr) { return namco163_read(image, NAMCO163_IMAGE_SIZE, arena, ARENA, (uint16_t)addr); }
+static uint64_t load_bare(uint64_t mapper, uint8_t submapper, uint64_t known) {
+    lent = BARE;
+    return namco163_load(image, NAMCO163_IMAGE_SIZE, arena, BARE, mapper, submapper, 0, known, 32768, 0, 128, 8192, 0, 2048);
+}
+static uint64_t read_at(unsigned addr) { return namco163_read(image, NAMCO163_IMAGE_SIZE, arena, lent, (uint16_t)addr); }
 static uint64_t write_at(unsigned addr, unsigned val) {
-    return namco163_write(image, NAMCO163_IMAGE_SIZE, arena, ARENA, (uint16_t)addr, (uint8_t)val);
+    return namco163_write(image, NAMCO163_IMAGE_SIZE, arena, lent, (uint16_t)addr, (uint8_t)val);
 }
 static uint64_t run(uint64_t clocks) { return namco163_run(image, NAMCO163_IMAGE_SIZE, samples, SAMPLES, clocks); }
 static void set_counter(unsigned counter) {
@@ -61,6 +67,7 @@ static void test_sizes(void) {
     struct namco163_arena ram = namco163_arena_of(32768, 8192, 128, 8192, 1, 2048);
     EQUAL(namco163_arena_length(32768, 8192, 128, 8192, 2048), ARENA);
     EQUAL(namco163_arena_length(524288, 65536, 1024, 262144, 4096), 858112);
+    EQUAL(namco163_arena_length(32768, 0, 128, 8192, 2048), BARE);
     EQUAL(namco163_arena_length(0, 0, 0, 0, 0), 3072);
     EQUAL(namco163_arena_length(1, 1025, 1, 0, 1), 6144);
     EQUAL(namco163_arena_length(524289, 0, 0, 0, 0), 0);
@@ -238,6 +245,86 @@ static void test_lent_states(void) {
     CHECK(image[0] == 0xFF && image[1] == 0xFF && image[2] & 0x80);
 }
 
+/* Whether each entry of 6000..7FFF shows the zero page, with the flag or without. */
+static int zero_page_at_6000(int writable) {
+    unsigned addr;
+    for (addr = 0x6000; addr < 0x8000; addr += 0x400) {
+        struct namco163_page page = namco163_prg_entry(image, (uint16_t)addr);
+        if (page.offset != 0 || page.writable != writable) return 0;
+    }
+    return 1;
+}
+
+/* Whether what is written to 6000..7FFF is dropped: it reads 00, and the arena of zeros stays. */
+static int drops(unsigned val) {
+    size_t zeros = 0;
+    if (write_at(0x6000, val) || write_at(0x7FFF, val) || read_at(0x6000) || read_at(0x6400) || read_at(0x7FFF)) return 0;
+    while (zeros < lent && arena[zeros] == 0) zeros++;
+    return zeros == lent && zero_page_at_6000(0);
+}
+
+/* H1: the board's number, and the written flag. */
+static int board(void) { return image[3] >> 3 & 3; }
+static int written(void) { return image[7] >> 6 & 1; }
+
+/* M5: without PRG-RAM nothing is writable at 6000, and no write changes those entries: a 163, a 175 with protect FE, 01 and FF, a 163 that
+ * becomes a settled 340, an Unknown that becomes a 175 and a 163. */
+static void test_no_prg_ram(void) {
+    static const uint8_t protects[3] = {0xFE, 0x01, 0xFF};
+    uint64_t answer;
+    size_t k;
+    EQUAL(load_bare(19, 0, 1), 0);
+    CHECK(zero_page_at_6000(0) && !written());
+    CHECK(drops(0xAA) && written());
+    EQUAL(write_at(0xE000, 0x01), 0xFF00000000);
+    CHECK(drops(0xAA));
+    EQUAL(load_bare(210, 1, 0), 0);
+    CHECK(drops(0x55));
+    for (k = 0; k < sizeof protects; k++) {
+        EQUAL(write_at(0xC000, protects[k]), 0);
+        CHECK(drops(0x55));
+    }
+    EQUAL(load_bare(19, 0, 0), 0);
+    EQUAL(write_at(0x6000, 0x5A), 0);
+    answer = write_at(0xE000, 0x80);
+    CHECK(namco163_prg_mask(answer) == 0 && namco163_chr_mask(answer) == 0xFF00);
+    CHECK(board() == 3 && written() && drops(0x5A));
+    EQUAL(write_at(0x4800, 0), 0);
+    EQUAL(board(), 3);
+    EQUAL(load_bare(210, 0, 0), 0);
+    EQUAL(write_at(0xC000, 0x01), 0);
+    CHECK(board() == 2 && drops(0x5A));
+    answer = write_at(0xC800, 0xE1);
+    CHECK(namco163_prg_mask(answer) == 0 && namco163_chr_mask(answer) == 0xFF00);
+    CHECK(board() == 1 && drops(0x5A));
+}
+
+/* M5, R10: an image of an earlier version, with the zero page writable at 6000, stores there until a write remaps; the byte stays. */
+static void test_lent_zero_page(void) {
+    unsigned k;
+    EQUAL(load_bare(19, 0, 1), 0);
+    for (k = 24; k < 32; k++) lend_prg(k, 0, 1);
+    CHECK(zero_page_at_6000(1));
+    EQUAL(write_at(0x6000, 0xAA), 0);
+    CHECK(arena[0] == 0xAA && zero_page_at_6000(1));
+    EQUAL(read_at(0x6000), 0xAA00);
+    EQUAL(read_at(0x6400), 0xAA00);
+    EQUAL(write_at(0x4800, 0x11), 0);
+    EQUAL(write_at(0xF800, 0x22), 0);
+    EQUAL(reset(NAMCO163_SOFT), 0);
+    CHECK(zero_page_at_6000(1));
+    EQUAL(load_bare(19, 0, 1), 0);
+    for (k = 24; k < 32; k++) lend_prg(k, 0, 1);
+    EQUAL(write_at(0x6000, 0xAA), 0);
+    EQUAL(write_at(0xE000, 0x00), 0xFF000000);
+    CHECK(arena[0] == 0xAA && zero_page_at_6000(0));
+    EQUAL(read_at(0x6000), 0xAA00);
+    EQUAL(write_at(0x6000, 0x55), 0);
+    EQUAL(arena[0], 0xAA);
+    EQUAL(read_at(0x6400), 0xAA00);
+    EQUAL(write_at(0xE000, 0x00), 0);
+}
+
 /* N20: refusals of a load, in their order: 1 4 5 6 7. */
 static void test_refused_loads(void) {
     keep();
@@ -310,6 +397,8 @@ int main(void) {
     test_rooms();
     test_reset();
     test_lent_states();
+    test_no_prg_ram();
+    test_lent_zero_page();
     test_refused_loads();
     test_refused_calls();
     if (failures) printf("%d of %d checks of the C calls failed\n", failures, checks);
