@@ -2,14 +2,15 @@
 -- and gives its reply, its samples and its rises. So it holds of no board that refuses too much or too little, idles within a run or alters
 -- a refused state.
 use Prim.Native.Nat.{ℕ, zero, suc, _≤_}
-use mathlib.Core.Path.{_≡_, refl, sym, ap, _∙_}
+use mathlib.Core.Path.{_≡_, sym, ap, _∙_}
 use mathlib.Core.List.{List, [], _∷_}
 use native.Mathlib.Omega.{arith}
 use lib.ListN.{length, take}
-use Rattle.cut.specs.Calls.{run, other, RunGave, Reply, refused, Board, Stretch, Trace, last, then, Observed, Point, start, riseAfter}
+use Rattle.cut.specs.Calls.{run, other, Reply, refused, Board, Stretch, Trace, last, then, Observed, start, riseAfter}
 use Rattle.cut.specs.Calls.{afterRun, noted}
 use Rattle.cut.specs.Machine.{Paper, ticks, machineRun, otherOf, machine}
 use Rattle.cut.specs.Demand3.{AsMachine}
+use Rattle.cut.proofs.Always.{handed-on}
 
 headOr : ℕ → List ℕ → ℕ
 headOr d [] = d
@@ -28,10 +29,6 @@ module _ {State Sample Arg Answer : Type 0} (board : Board State Sample Arg Answ
   pub refusal-pinned : (n : ℕ) (lent : List Sample) (s : State) → board .run n lent s .refusal ≡ paper .refusesRun n (length lent) s
   unfolding noted machine headOr
   refusal-pinned n lent s = ap (λ (t : Observed State Sample Arg Answer). headOr 0 (t .refusals)) (same (run n lent ∷ []) s)
-
-  handed-on : (q n : ℕ) (g : RunGave State Sample) (p : Point State Sample) → afterRun q n g p .state ≡ g .state
-  handed-on zero n g p = refl
-  handed-on (suc q) n g p = refl
 
   pub state-pinned : (n : ℕ) (lent : List Sample) (s : State)
       → board .run n lent s .state ≡ machineRun (paper .clock) (paper .refusesRun n (length lent) s) n (start s) .state

@@ -39,6 +39,8 @@ use Rattle.thm_machine.proofs.Demand3 as Machine
 use Rattle.thm_range.specs.Fit.{Fit}
 use Rattle.thm_range.proofs.Lists.{always-fit, never-2-or-7}
 use Rattle.thm_range.proofs.Refused.{other-refused}
+use Rattle.thm_settled.specs.Settled.{StaysSettled, StaysDetecting, StaysFixed, SettledFromLoad, TypeOfLoad}
+use Rattle.thm_settled.proofs.Settled.{stays-settled, stays-detecting, stays-fixed, settled-from-load, type-of-load}
 use Rattle.thm_work_ram.specs.Rust.{rustUpdateBanks}
 use Rattle.thm_work_ram.specs.ZeroPage.{ZeroPage, NoWorkRam}
 use Rattle.thm_work_ram.proofs.Mapping.{ram-as-rust, no-ram}
@@ -118,6 +120,23 @@ demand-2-wiki-175 = agrees-175
 pub demand-2-wiki-340 : (l : Loaded) → l .mapper ≡ 210 → l .submapper ≡ 2 → (calls : List (Call Float Other)) → AllTyped Plain calls
     → Agrees340 (mirroringAtLoad (l .flags)) (beside calls (loaded l) fresh) (observed board calls (loaded l) .state .state)
 demand-2-wiki-340 = agrees-340
+
+-- ---- L16, L17: a settled 340 stays one until a reset is accepted; whether a board detects stays, and where it does not, its type does
+
+pub type-settled : StaysSettled
+type-settled = stays-settled
+
+pub type-settled-from-load : SettledFromLoad
+type-settled-from-load = settled-from-load
+
+pub type-detected : StaysDetecting
+type-detected = stays-detecting
+
+pub type-fixed : StaysFixed
+type-fixed = stays-fixed
+
+pub type-at-load : TypeOfLoad
+type-at-load = type-of-load
 
 -- ---- D3.1, C19: a list is what the plain machine does with it, so how clocks are cut into runs does not show
 

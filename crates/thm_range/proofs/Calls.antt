@@ -7,7 +7,7 @@ use mathlib.Core.Logic.{_⊎_, inl, inr}
 use mathlib.Core.Option.{Option, some, none}
 use native.Mathlib.Omega.{arith}
 use borrow.Author.Needs.{needs}
-use borrow.Author.Tests.{not-false, eqb-true}
+use borrow.Author.Tests.{not-false, eqb-true, eq-eqb, le-ltb}
 use lib.Dec.{eqb}
 use lib.Ieee.{Float}
 use lib.ListN.{length, length-replicate, length-drop, take, drop}
@@ -39,8 +39,8 @@ use Rattle.board_registers.specs.Writes.{writeChip, remaps}
 use Rattle.board_banking.specs.Banking.{updateBanks}
 use Rattle.board_state.specs.declared.State.{State}
 use Rattle.board_state.specs.State.{mapperOk, Known, withChip}
-use Rattle.board_state.proofs.Range.{mapper-in}
-use Rattle.call_refusals.specs.Refusals.{firstOf, cpuChecks, loadChecks}
+use Rattle.board_state.proofs.Range.{mapper-in, known-passes}
+use Rattle.call_refusals.specs.Refusals.{firstOf, cpuChecks, resetChecks, loadChecks}
 use Rattle.call_refusals.proofs.Laws.{accepted-none, fill-good, battery-good, backed}
 use Rattle.call_cpu.specs.declared.calls.Written.{Written}
 use Rattle.call_cpu.specs.Calls.{writeRegister, cpuWrite as cpuWriteGives}
@@ -191,6 +191,16 @@ unfolding cpuWriteGives changes prgChanges
 cpu-write-mask s arena addr v =
     cond-holds (λ (w : Written). w .changed .prg .mask % 2 ^ 24 ≡ 0) (eqb (firstOf (cpuChecks s (length arena) addr)) 0) _ _
     (mask-multiple 24 (s .memory .«prg_pages») (writeRegister s addr v .memory .«prg_pages») (register-stays s addr v .kept .low)) refl
+
+-- from a fit state a CPU call at 4800 or above is accepted, and so is a reset of kind 0 or 1
+pub cpu-accepted : (h : Held) → Fit h → (addr : ℕ) → 0x4800 ≤ addr → firstOf (cpuChecks (h .state) (length (h .arena)) addr) ≡ 0
+unfolding firstOf
+cpu-accepted h f addr lo =
+    rw (known-passes (h .state) (f .known), eq-eqb (length (h .arena)) (arenaLen (h .state .memory .layout)) (f .long), le-ltb addr 0x4800 lo)
+
+pub reset-accepted : (h : Held) → Fit h → (kind : ℕ) → kind ≤ 1 → firstOf (resetChecks (h .state) kind) ≡ 0
+unfolding firstOf
+reset-accepted h f kind small = rw (known-passes (h .state) (f .known), le-ltb 1 kind small)
 
 -- ---- every call of a list
 

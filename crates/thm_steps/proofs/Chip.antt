@@ -1,11 +1,11 @@
 -- Each step of the chip keeps what is known of it: what the types say, and that it is in range. A written value is a byte.
-use Prim.Native.Nat.{ℕ, zero, suc, _+_, _*_, _/_, _%_, _^_, _≤_, _<_}
-use mathlib.Core.Path.{_≡_, refl, ap, _∙_}
-use mathlib.Core.Bool.{Bool, true, false, cond, not, _&&_, _||_}
+use Prim.Native.Nat.{ℕ, _+_, _*_, _/_, _%_, _^_, _≤_, _<_}
+use mathlib.Core.Path.{_≡_, refl, _∙_}
+use mathlib.Core.Bool.{Bool, true, false, cond}
 use mathlib.Core.List.{List}
 use native.Mathlib.Omega.{arith}
 use lib.Dec.{ltb}
-use lib.ListN.{length, length-set, getD, set}
+use lib.ListN.{length, length-set, set}
 use Rattle.limits.specs.Limits.{bankMost}
 use Rattle.limits.proofs.Each.{cond-holds, each-set, below-set, each-replicate}
 use Rattle.memory.specs.Range.{Bytes}
@@ -16,20 +16,20 @@ use Rattle.sound.specs.Registers.{readOf, written}
 use Rattle.sound.proofs.registers.Range.{written-range, written-typed, advanced-range, advanced-typed}
 use Rattle.sound.proofs.audio.Range.{fresh-range, fresh-typed}
 use Rattle.board_chip.specs.declared.namco163.Board.{Board}
-use Rattle.board_chip.specs.declared.namco163.Board.the-variants.{Unknown, Namco163 as Is163, Namco175, Namco340}
 use Rattle.board_chip.specs.declared.namco163.Namco163.{Namco163}
 use Rattle.board_chip.specs.declared.namco163.Regs.{Regs}
 use Rattle.board_chip.specs.declared.reset.ResetKind.{ResetKind}
 use Rattle.board_chip.specs.declared.reset.ResetKind.the-variants.{Soft, Hard}
-use Rattle.board_chip.specs.Namco163.{is163, is175, is340, withBoard, withMirroring, withRegs, withAudio, withWritten, withSlots}
+use Rattle.board_chip.specs.Namco163.{withBoard, withMirroring, withRegs, withAudio, withWritten, withSlots}
 use Rattle.board_chip.specs.Namco163.{withProtect}
 use Rattle.board_chip.specs.Detection.{mayChange, maybeSetBoard}
 use Rattle.board_chip.specs.Load.{chipAtLoad}
 use Rattle.board_chip.specs.Reads.{afterRead}
 use Rattle.board_chip.specs.Reset.{resetRegs, setNametables, resetChip}
-use Rattle.board_chr.specs.Slots.{setsCiram, writeSlot, writeNametable, writeC000, writeC800}
-use Rattle.board_prg.specs.Banks.{bit6, bit7, detectE000, writeBank, highBitsE000, writeE000, writeE800, writeF000, writeF800}
-use Rattle.board_registers.specs.Writes.{writeSoundData, writeCounterLow, writeCounterHigh, writeWorkRam, writeChip}
+use Rattle.board_chr.specs.Slots.{setsCiram, writeSlot}
+use Rattle.board_prg.specs.Banks.{writeBank}
+use Rattle.board_registers.specs.Writes.{writeChip}
+use Rattle.board_registers.proofs.Steps.{Steps, write-by}
 use Rattle.board_state.specs.State.{MapperIn, BanksIn, ChipInRange, ChipTyped}
 
 -- m is a step after n
@@ -104,7 +104,7 @@ keeps-regs n r h = step n (withRegs n r) refl refl h slots-stay refl (λ h. h) (
 keeps-slots : (n : Namco163) (flags : List Bool) (chr : List ℕ) → (ChipTyped n → SlotsTyped flags chr) → Keeps n (withSlots n flags chr)
 keeps-slots n flags chr h = step n (withSlots n flags chr) refl refl regs-stay h refl (λ h. h) (λ t. t) (λ t r. r)
 
-pub bank-keeps : (n : Namco163) (k v : ℕ) → Keeps n (writeBank n k v)
+bank-keeps : (n : Namco163) (k v : ℕ) → Keeps n (writeBank n k v)
 bank-keeps n k v =
     let banks = n .«prg_banks» in
     step n (writeBank n k v) refl refl regs-stay slots-stay (length-set banks k (v % 64))
@@ -123,52 +123,18 @@ keeps-protect n v h = keeps-regs n _ (λ t. (t .counter, h))
 
 -- ---- detection
 
-pub maybe-keeps : (n : Namco163) (b : Board) → Keeps n (maybeSetBoard n b)
+maybe-keeps : (n : Namco163) (b : Board) → Keeps n (maybeSetBoard n b)
 unfolding maybeSetBoard
 maybe-keeps n b =
     keeps-cond (mayChange n) n (withBoard n b) n (keeps-board n b) (keeps-self n)
 
-pub detect-keeps : (n : Namco163) (v : ℕ) → Keeps n (detectE000 n v)
-unfolding detectE000
-detect-keeps n v =
-    keeps-cond (bit7 v || (bit6 v && not (is163 (n .board)))) n (maybeSetBoard n Namco340) n (maybe-keeps n Namco340) (keeps-self n)
-
--- ---- writes, range by range
-
-pub sound-data-keeps : (n : Namco163) (a v : ℕ) → v < 256 → Keeps n (writeSoundData n a v)
-unfolding writeSoundData
-sound-data-keeps n a v h = keeps-both (maybe-keeps n Is163) (keeps-written (maybeSetBoard n Is163) a v h)
-
-pub counter-low-keeps : (n : Namco163) (v : ℕ) → v < 256 → Keeps n (writeCounterLow n v)
-unfolding writeCounterLow
-counter-low-keeps n v h =
-    let m = maybeSetBoard n Is163 in
-    keeps-both (maybe-keeps n Is163) (keeps-regs m _ (λ t. (low (m .regs .«irq_counter») v (t .counter) h, t .protect)))
-  where
-    low : (c v : ℕ) → c < 2 ^ 16 → v < 256 → c / 256 * 256 + v < 2 ^ 16
-    low c v p q = omega arith
-
-pub counter-high-keeps : (n : Namco163) (v : ℕ) → v < 256 → Keeps n (writeCounterHigh n v)
-unfolding writeCounterHigh
-counter-high-keeps n v h =
-    let m = maybeSetBoard n Is163 in
-    keeps-both (maybe-keeps n Is163) (keeps-regs m _ (λ t. (high (m .regs .«irq_counter») v h, t .protect)))
-  where
-    high : (c v : ℕ) → v < 256 → c % 256 + v * 256 < 2 ^ 16
-    high c v q = omega arith
-
-pub work-ram-keeps : (n : Namco163) → Keeps n (writeWorkRam n)
-unfolding writeWorkRam
-work-ram-keeps n =
-    let m = withWritten n true in
-    let k : Keeps n m = keeps-flag n true in
-    keeps-cond (is340 (m .board)) n (maybeSetBoard m Unknown) m (keeps-both k (maybe-keeps m Unknown)) k
+-- ---- writes
 
 slot-byte : (b : Bool) (v : ℕ) → v < 256 → cond b (v % 2) v < 256
 slot-byte true v h = omega arith
 slot-byte false v h = h
 
-pub slot-keeps : (n : Namco163) (a v : ℕ) → v < 256 → Keeps n (writeSlot n a v)
+slot-keeps : (n : Namco163) (a v : ℕ) → v < 256 → Keeps n (writeSlot n a v)
 unfolding writeSlot
 slot-keeps n a v h =
     keeps-slots n _ _ (λ t. (
@@ -179,66 +145,31 @@ slot-keeps n a v h =
       ),
     ))
 
-pub nametable-keeps : (n : Namco163) (a v : ℕ) → v < 256 → Keeps n (writeNametable n a v)
-unfolding writeNametable
-nametable-keeps n a v h =
-    keeps-cond (is175 (n .board)) n _ _ (keeps-protect n v h)
-    (keeps-cond (is163 (n .board)) n (writeSlot n a v) n (slot-keeps n a v h) (keeps-self n))
+half-low : (c v : ℕ) → c < 2 ^ 16 → v < 256 → c / 256 * 256 + v < 2 ^ 16
+half-low c v p q = omega arith
 
-pub c000-keeps : (n : Namco163) (a v : ℕ) → v < 256 → Keeps n (writeC000 n a v)
-unfolding writeC000
-c000-keeps n a v h =
-    keeps-both (keeps-cond (is163 (n .board)) n n (maybeSetBoard n Namco175) (keeps-self n) (maybe-keeps n Namco175))
-    (nametable-keeps _ a v h)
+half-high : (c v : ℕ) → v < 256 → c % 256 + v * 256 < 2 ^ 16
+half-high c v q = omega arith
 
-pub c800-keeps : (n : Namco163) (a v : ℕ) → v < 256 → Keeps n (writeC800 n a v)
-unfolding writeC800
-c800-keeps n a v h = keeps-both (maybe-keeps n Is163) (nametable-keeps (maybeSetBoard n Is163) a v h)
-
-pub high-bits-keeps : (n : Namco163) (a v : ℕ) → v < 256 → Keeps n (highBitsE000 n a v)
-unfolding highBitsE000
-high-bits-keeps n a v h =
-    keeps-cond (is340 (n .board)) n _ _ (keeps-mirroring n _)
-    (keeps-cond (is163 (n .board)) n _ n (keeps-written n a v h) (keeps-self n))
-
-pub e000-keeps : (n : Namco163) (a v : ℕ) → v < 256 → Keeps n (writeE000 n a v)
-unfolding writeE000
-e000-keeps n a v h = keeps-both (keeps-both (detect-keeps n v) (bank-keeps (detectE000 n v) 0 v)) (high-bits-keeps _ a v h)
-
-pub e800-keeps : (n : Namco163) (v : ℕ) → Keeps n (writeE800 n v)
-unfolding writeE800
-e800-keeps n v =
-    let m = writeBank n 1 v in
-    keeps-cond (is163 (m .board)) n _ m (keeps-both (bank-keeps n 1 v) (keeps-regs m _ (λ t. (t .counter, t .protect)))) (bank-keeps n 1 v)
-
-pub f000-keeps : (n : Namco163) (v : ℕ) → Keeps n (writeF000 n v)
-unfolding writeF000
-f000-keeps n v = bank-keeps n 2 v
-
-pub f800-keeps : (n : Namco163) (a v : ℕ) → v < 256 → Keeps n (writeF800 n a v)
-unfolding writeF800
-f800-keeps n a v h =
-    let m = maybeSetBoard n Is163 in
-    let k = withRegs m (withProtect (m .regs) v) in
-    keeps-cond (is163 (m .board)) n _ m
-    (keeps-both (keeps-both (maybe-keeps n Is163) (keeps-protect m v h)) (keeps-written k a v h))
-    (maybe-keeps n Is163)
+write-steps : (n : Namco163) (a v : ℕ) → v < 256 → Steps (Keeps n) a v
+write-steps n a v h =
+    record {
+      detect = λ m b k. keeps-both k (maybe-keeps m b);
+      sound = λ m k. keeps-both k (keeps-written m a v h);
+      low = λ lo hi m k.
+          keeps-both k (keeps-regs m _ (λ t. (half-low (m .regs .«irq_counter») v (t .counter) h, t .protect)));
+      high = λ lo hi m k. keeps-both k (keeps-regs m _ (λ t. (half-high (m .regs .«irq_counter») v h, t .protect)));
+      flag = λ m k. keeps-both k (keeps-flag m true);
+      slot = λ m k. keeps-both k (slot-keeps m a v h);
+      protect = λ m k. keeps-both k (keeps-protect m v h);
+      bank = λ m i k. keeps-both k (bank-keeps m i v);
+      selects = λ m k. keeps-both k (keeps-regs m _ (λ t. (t .counter, t .protect)));
+      mirroring = λ m k. keeps-both k (keeps-mirroring m _);
+    }
 
 -- the write whole, at every address
 pub write-keeps : (n : Namco163) (a v : ℕ) → v < 256 → Keeps n (writeChip n a v)
-unfolding writeChip
-write-keeps n a v h =
-    keeps-cond (ltb a 0x4800) n _ _ (keeps-self n)
-    (keeps-cond (ltb a 0x5000) n _ _ (sound-data-keeps n a v h)
-    (keeps-cond (ltb a 0x5800) n _ _ (counter-low-keeps n v h)
-    (keeps-cond (ltb a 0x6000) n _ _ (counter-high-keeps n v h)
-    (keeps-cond (ltb a 0x8000) n _ _ (work-ram-keeps n)
-    (keeps-cond (ltb a 0xC000) n _ _ (slot-keeps n a v h)
-    (keeps-cond (ltb a 0xC800) n _ _ (c000-keeps n a v h)
-    (keeps-cond (ltb a 0xE000) n _ _ (c800-keeps n a v h)
-    (keeps-cond (ltb a 0xE800) n _ _ (e000-keeps n a v h)
-    (keeps-cond (ltb a 0xF000) n _ _ (e800-keeps n v)
-    (keeps-cond (ltb a 0xF800) n _ _ (f000-keeps n v) (f800-keeps n a v h)))))))))))
+write-keeps n a v h = write-by (Keeps n) a v (write-steps n a v h) n (keeps-self n)
 
 -- ---- reads and reset
 

@@ -9,10 +9,11 @@ use borrow.Author.Tests.{lt-ltb, leb-false}
 use lib.Dec.{leb}
 use lib.Ieee.{Float}
 use lib.ListN.{length, replicate}
-use Rattle.cut.specs.Calls.{Call, run, other, RunGave, Point, from, afterRun, noted}
+use Rattle.cut.specs.Calls.{Call, run, other, Point, from, afterRun, noted}
 use Rattle.cut.specs.Machine.{plainly, ticks}
 use Rattle.cut.specs.Contract.{runBy}
 use Rattle.cut.specs.Always.{AllTyped}
+use Rattle.cut.proofs.Always.{handed-on}
 use Rattle.cut.proofs.Machine.{state-more}
 use Rattle.sound.specs.Audio.{withRam}
 use Rattle.board_chip.specs.Namco163.{withAudio}
@@ -57,11 +58,6 @@ no-reset : (kind : ℕ) (s : State) → leb kind 1 ≡ false → firstOf (resetC
 no-reset kind s r e =
     let h = accepted-none (resetChecks s kind) (search needs) e in
     never (sym (lt-ltb 1 kind (leb-false kind 1 r)) ∙ h .1 .0)
-
--- a host notes the state that a run hands back, whether it is refused or not
-state-is : (q n : ℕ) (g : RunGave Held Float) (p : Point Held Float) → afterRun q n g p .state ≡ g .state
-state-is zero n g p = refl
-state-is (suc q) n g p = refl
 
 module _ (P : Noted → State → Type 0) (k : Kept P) where
   -- a run
@@ -124,7 +120,7 @@ module _ (P : Noted → State → Type 0) (k : Kept P) where
       let g = runGives n lent (p .state) in
       let y = steps x (acts (run n lent) (p .state)) in
       let after = afterRun (g .refusal) n g p in
-      let e = state-is (g .refusal) n g p in
+      let e = handed-on (g .refusal) n g p in
       subst (λ (h : Held). P (beside calls h y) (noted board calls after .state .state)) e
       (along calls after y (t .1) (subst Fit (sym e) (run-fits n lent (p .state) f))
       (subst (λ (h : Held). P y (h .state)) (sym e) (run-kept n lent (p .state) x f q)))

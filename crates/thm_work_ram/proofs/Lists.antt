@@ -7,7 +7,7 @@ use mathlib.Core.List.{List}
 use mathlib.Core.Logic.{inl, inr}
 use mathlib.Core.Option.{Option, some, none}
 use native.Mathlib.Omega.{arith}
-use borrow.Author.Tests.{eq-eqb, le-ltb}
+use borrow.Author.Tests.{le-ltb}
 use lib.Ieee.{Float}
 use lib.ListN.{length, getD}
 use Rattle.cut.specs.Calls.{Call, answered, start}
@@ -35,7 +35,6 @@ use Rattle.board_registers.specs.Writes.{writeChip, remaps}
 use Rattle.board_banking.specs.Banking.{updateBanks}
 use Rattle.board_state.specs.declared.State.{State}
 use Rattle.board_state.specs.State.{Known}
-use Rattle.board_state.proofs.Range.{known-passes}
 use Rattle.call_refusals.specs.Refusals.{firstOf}
 use Rattle.call_refusals.proofs.Laws.{fill-good, battery-good, backed}
 use Rattle.call_cpu.specs.Calls.{writeRegister}
@@ -50,7 +49,7 @@ use Rattle.thm_machine.proofs.Keeps.{keeps-other}
 use Rattle.thm_machine.proofs.Start.{load-starts}
 use Rattle.thm_steps.proofs.Banking.{update-banks-kept}
 use Rattle.thm_range.specs.Fit.{Fit}
-use Rattle.thm_range.proofs.Calls.{by-answer, other-fits, run-fits, run-memory, zeroed-fits, ranged-load, memory-load, layout-load}
+use Rattle.thm_range.proofs.Calls.{cpu-accepted, by-answer, other-fits, run-fits, run-memory, zeroed-fits, ranged-load, memory-load, layout-load}
 use Rattle.thm_work_ram.specs.ZeroPage.{ZeroPage, Apart, TablesApart, NoWorkRam}
 use Rattle.thm_work_ram.proofs.Mapping.{no-ram}
 use Rattle.thm_work_ram.proofs.Entries.{behind, update-banks-apart, new-apart}
@@ -188,19 +187,14 @@ unfolding served
 none-served n addr lo =
     rw (le-ltb addr 0x4800 (omega arith), le-ltb addr 0x5000 (omega arith), le-ltb addr 0x5800 (omega arith), le-ltb addr 0x6000 lo)
 
-read-accepted : (h : Held) → Fit h → (addr : ℕ) → 0x4800 ≤ addr → firstOf (checks (cpuRead addr) h) ≡ 0
-unfolding checks firstOf
-read-accepted h f addr lo =
-    rw (known-passes (h .state) (f .known), eq-eqb (length (h .arena)) (arenaLen (h .state .memory .layout)) (f .long), le-ltb addr 0x4800 lo)
-
 read-zero : (l : Layout) (h : Held) → Untouched l h → NoWorkRam (h .state .memory) → (addr : ℕ) → 0x6000 ≤ addr → addr < 0x8000
     → board .other (cpuRead addr) h .reply ≡ answered (byte 0)
-unfolding answers
+unfolding answers checks
 read-zero l h u bare addr lo hi =
     let at : 24 + (addr / 1024 - 24) ≡ addr / 1024 = omega arith in
     let entry : prgEntry (h .state .memory) addr ≡ unmapped = rw at at (bare (addr / 1024 - 24) (omega arith)) in
     let zero : prgPeek (h .arena) (h .state .memory) addr ≡ 0 = shown-zero (h .arena) (u .zeros) _ addr entry in
-    rw (keeps-other (cpuRead addr) h, read-accepted h (u .fit) addr (omega arith), none-served (h .state .chip) addr lo, zero)
+    rw (keeps-other (cpuRead addr) h, cpu-accepted h (u .fit) addr (omega arith), none-served (h .state .chip) addr lo, zero)
 
 -- ---- from a load
 

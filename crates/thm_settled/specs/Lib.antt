@@ -1,0 +1,2 @@
+-- What is claimed of the type of a board.
+pub mod Settled
