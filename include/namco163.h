@@ -37,7 +37,7 @@ extern "C" {
 
 /* The version of this header and of the archive that belongs to it. */
 #define NAMCO163_VERSION_MAJOR 0
-#define NAMCO163_VERSION_MINOR 4
+#define NAMCO163_VERSION_MINOR 5
 #define NAMCO163_VERSION_PATCH 0
 #define NAMCO163_TEXT_OF(x) #x
 #define NAMCO163_TEXT(x) NAMCO163_TEXT_OF(x)
@@ -81,6 +81,9 @@ enum namco163_refusals {
 
 /* Kinds of a reset. */
 enum namco163_reset_kinds { NAMCO163_SOFT = 0, NAMCO163_HARD = 1 };
+
+/* Types of a board. */
+enum namco163_boards { NAMCO163_UNKNOWN = 0, NAMCO163_163 = 1, NAMCO163_175 = 2, NAMCO163_340 = 3 };
 
 /* Puts in a cartridge: the image becomes that of its fresh state (whatever it held), the whole arena 0. No reset is part of it.
  *   mapper       19 (Namco 163) or 210 (Namco 175 and 340)
@@ -235,6 +238,16 @@ static inline struct namco163_page namco163_chr_entry(const uint8_t *image, uint
 
 /* 1 while the board holds the IRQ line up, else 0. */
 static inline int namco163_irq_line(const uint8_t *image) { return image[2] >> 7; }
+
+/* The board's type, one of namco163_boards. Where it is detected, writes can change it. */
+static inline unsigned namco163_board(const uint8_t *image) { return image[3] >> 3 & 3; }
+
+/* 1 if no write can change the type any more, else 0. A type that the load gave and that is not detected stays for good. Of those that are
+ * detected only a 340 stays, once 6000..7FFF was written, and until the next reset; then it is detected anew. */
+static inline int namco163_settled(const uint8_t *image) {
+    int detecting = image[6] >> 2 & 1, written = image[7] >> 6 & 1;
+    return !detecting || (written && namco163_board(image) == NAMCO163_340);
+}
 
 #ifdef __cplusplus
 }

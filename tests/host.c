@@ -263,8 +263,7 @@ static int drops(unsigned val) {
     return zeros == lent && zero_page_at_6000(0);
 }
 
-/* H1: the board's number, and the written flag. */
-static int board(void) { return image[3] >> 3 & 3; }
+/* H1: the written flag. */
 static int written(void) { return image[7] >> 6 & 1; }
 
 /* M5: without PRG-RAM nothing is writable at 6000, and no write changes those entries: a 163, a 175 with protect FE, 01 and FF, a 163 that
@@ -288,15 +287,92 @@ static void test_no_prg_ram(void) {
     EQUAL(write_at(0x6000, 0x5A), 0);
     answer = write_at(0xE000, 0x80);
     CHECK(namco163_prg_mask(answer) == 0 && namco163_chr_mask(answer) == 0xFF00);
-    CHECK(board() == 3 && written() && drops(0x5A));
+    CHECK(namco163_board(image) == NAMCO163_340 && namco163_settled(image) && drops(0x5A));
     EQUAL(write_at(0x4800, 0), 0);
-    EQUAL(board(), 3);
+    EQUAL(namco163_board(image), NAMCO163_340);
     EQUAL(load_bare(210, 0, 0), 0);
     EQUAL(write_at(0xC000, 0x01), 0);
-    CHECK(board() == 2 && drops(0x5A));
+    CHECK(namco163_board(image) == NAMCO163_175 && drops(0x5A));
     answer = write_at(0xC800, 0xE1);
     CHECK(namco163_prg_mask(answer) == 0 && namco163_chr_mask(answer) == 0xFF00);
-    CHECK(board() == 1 && drops(0x5A));
+    CHECK(namco163_board(image) == NAMCO163_163 && drops(0x5A));
+}
+
+/* L1: board and settled after each kind of load. */
+static void test_loaded_boards(void) {
+    static const struct {
+        uint64_t mapper, known;
+        uint8_t submapper;
+        unsigned board;
+        int settled;
+    } loads[] = {
+        {19, 1, 0, NAMCO163_163, 1},
+        {19, 0, 0, NAMCO163_163, 0},
+        {19, 0, 2, NAMCO163_163, 0},
+        {210, 0, 1, NAMCO163_175, 1},
+        {210, 0, 2, NAMCO163_340, 1},
+        {210, 0, 0, NAMCO163_UNKNOWN, 0},
+        {210, 1, 0, NAMCO163_UNKNOWN, 0},
+        {210, 1, 3, NAMCO163_UNKNOWN, 0},
+    };
+    size_t k;
+    for (k = 0; k < sizeof loads / sizeof loads[0]; k++) {
+        EQUAL(load_bare(loads[k].mapper, loads[k].submapper, loads[k].known), 0);
+        EQUAL(namco163_board(image), loads[k].board);
+        EQUAL(namco163_settled(image), loads[k].settled);
+    }
+}
+
+/* Whether some write to one of L11's ranges changes the type of the board in image_before, which is lent anew for each. */
+static int some_write_changes(void) {
+    static const uint16_t addrs[] = {0x4800, 0x5000, 0x5800, 0x6000, 0x8000, 0xC000, 0xC800, 0xE000, 0xE800, 0xF000, 0xF800};
+    unsigned was = namco163_board(image_before), val;
+    size_t k;
+    for (k = 0; k < sizeof addrs / sizeof addrs[0]; k++) {
+        for (val = 0; val < 256; val++) {
+            memcpy(image, image_before, sizeof image);
+            if (namco163_refusal(write_at(addrs[k], val)) || namco163_board(image) != was) return 1;
+        }
+    }
+    return 0;
+}
+
+/* L16, L17: settled says exactly that no write changes the type, and a reset keeps it: bits 2..3 of the kind are the type, bit 1 is
+ * whether it is detected, bit 0 the written flag. */
+static void check_settled(unsigned kind) {
+    unsigned type = kind >> 2, detecting = kind >> 1 & 1, flag = kind & 1, reset_kind;
+    EQUAL(load_bare(19, 0, 1), 0);
+    image[3] = (uint8_t)((image[3] & ~0x18u) | type << 3);
+    image[6] = (uint8_t)((image[6] & ~0x04u) | detecting << 2);
+    image[7] = (uint8_t)((image[7] & ~0x40u) | flag << 6);
+    memcpy(image_before, image, sizeof image);
+    EQUAL(namco163_board(image), type);
+    EQUAL(namco163_settled(image_before), !some_write_changes());
+    for (reset_kind = 0; reset_kind < 2; reset_kind++) {
+        memcpy(image, image_before, sizeof image);
+        EQUAL(reset(reset_kind), 0);
+        EQUAL(namco163_board(image), type);
+        EQUAL(namco163_settled(image), !detecting);
+    }
+}
+
+static void test_settled(void) {
+    unsigned kind;
+    for (kind = 0; kind < 16; kind++) check_settled(kind);
+}
+
+/* L16: only the 340 settles, and only when it was written: D by E000=80 and 6000=01, in both orders; a reset lets it go. */
+static void test_settling(void) {
+    EQUAL(load_bare(19, 0, 0), 0);
+    CHECK(namco163_refusal(write_at(0xE000, 0x80)) == 0 && namco163_board(image) == NAMCO163_340 && !namco163_settled(image));
+    CHECK(namco163_refusal(write_at(0x6000, 0x01)) == 0 && namco163_settled(image));
+    CHECK(namco163_refusal(write_at(0x4800, 0x00)) == 0 && namco163_board(image) == NAMCO163_340);
+    EQUAL(reset(NAMCO163_SOFT), 0);
+    CHECK(namco163_board(image) == NAMCO163_340 && !namco163_settled(image));
+    CHECK(namco163_refusal(write_at(0xC000, 0x01)) == 0 && namco163_board(image) == NAMCO163_175);
+    EQUAL(load_bare(19, 0, 0), 0);
+    CHECK(namco163_refusal(write_at(0x6000, 0x01)) == 0 && !namco163_settled(image));
+    CHECK(namco163_refusal(write_at(0xE000, 0x80)) == 0 && namco163_board(image) == NAMCO163_340 && namco163_settled(image));
 }
 
 /* M5, R10: an image of an earlier version, with the zero page writable at 6000, stores there until a write remaps; the byte stays. */
@@ -399,6 +475,9 @@ int main(void) {
     test_lent_states();
     test_no_prg_ram();
     test_lent_zero_page();
+    test_loaded_boards();
+    test_settled();
+    test_settling();
     test_refused_loads();
     test_refused_calls();
     if (failures) printf("%d of %d checks of the C calls failed\n", failures, checks);
