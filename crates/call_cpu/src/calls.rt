@@ -104,7 +104,7 @@ pub fn cpu_peek(s: State, arena: &[u8], addr: u16) -> Peeked
 }
 
 // L11, L14: the registers after a write, and the tables where they are mapped anew.
-fn write_register(s: State, addr: u16, val: u8) -> State
+pub fn write_register(s: State, addr: u16, val: u8) -> State
     requires { ⌜ (s .chip .audio .addr < 128) × Sized (s .memory) ⌝ }
     ensures { λ r. ⌜ r ≡ writeRegister s addr val ⌝ }
 {
@@ -122,7 +122,7 @@ fn write_register(s: State, addr: u16, val: u8) -> State
     after
 }
 
-fn refused_write(s: State, q: u8) -> Written
+pub fn refused_write(s: State, q: u8) -> Written
     ensures { λ r. ⌜ r ≡ refusedWrite s q ⌝ }
 {
     let prg = PrgChanges {

@@ -1,9 +1,10 @@
 -- Refused by the image, or on to the call on its state.
 use Prim.Native.Nat.{ℕ, _^_, _<_}
 use mathlib.Core.Path.{_≡_, refl, sym, ap, subst, _∙_}
-use mathlib.Core.Bool.{Bool}
+use mathlib.Core.Bool.{Bool, true, false, cond}
 use mathlib.Core.List.{List, _∷_}
 use borrow.Author.Tests.{eq-eqb, ne-eqb}
+use lib.Dec.{eqb}
 use lib.ListN.{length}
 use Rattle.memory.specs.declared.layout.MemoryLayout.{MemoryLayout}
 use Rattle.memory.specs.Range.{Bytes}
@@ -81,6 +82,15 @@ on-image img lent own g r is =
       goes-on = λ z. ap (λ (x : State). unlessRefused (stateCheck x ∷ own x) (unaltered img lent) (g x)) (s ∙ state-read img (sym q ∙ z))
           ∙ onward img (own (stateIn img)) lent (g (stateIn img)) (sym q ∙ z);
     }
+
+-- a call's word does not tell which image it left
+pub same-word : (cs : List Check) (img other lent : List ℕ) (g : Gives)
+    → unlessRefused cs (unaltered img lent) g .word ≡ unlessRefused cs (unaltered other lent) g .word
+same-word cs img other lent g = go (eqb (firstOf cs) 0)
+  where
+    go : (t : Bool) → cond t g (unaltered img lent (firstOf cs)) .word ≡ cond t g (unaltered other lent (firstOf cs)) .word
+    go true = refl
+    go false = refl
 
 -- ---- an image that is only written
 

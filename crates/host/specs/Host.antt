@@ -1,4 +1,4 @@
--- H4 to H6: what each of a C host's five calls answers and leaves on an image, refused calls too. What it does on the image's state is
+-- H4 to H6: what each of a C host's calls answers and leaves on an image, refused calls too. What it does on the image's state is
 -- host_state's.
 use Prim.Native.Nat.{ℕ}
 use mathlib.Core.Bool.{Bool, not}

@@ -1,2 +1,2 @@
--- What the five host calls answer and leave.
+-- What the host's calls answer and leave.
 pub mod Host

@@ -1,5 +1,6 @@
-// The five calls of the C host (H4). Each answers 64 bits, with its refusal number in the low 8, 0 for accepted (H6).
+// The six calls of the C host (H4). Each answers 64 bits, with its refusal number in the low 8, 0 for accepted (H6).
 use call_load::load;
+use host_preview::preview_on;
 use host_state::read_on;
 use host_state::reset_on;
 use host_state::run_on;
@@ -95,6 +96,19 @@ pub extern "C" fn namco163_write(image: &mut [u8], arena: &mut [u8], addr: u16, 
     }
     let s = read.state;
     write_on(s, arena, addr, val, image)
+}
+
+// What a write would answer, with nothing altered (L18).
+#[no_mangle]
+pub extern "C" fn namco163_preview(image: &[u8], arena: &[u8], addr: u16, val: u8) -> u64
+    ensures { λ r. ⌜ r ≡ hostWrite (now (image .entry)) (now (arena .entry)) addr val .word ⌝ }
+{
+    let read = read_image(image);
+    if read.refusal != 0 {
+        return read.refusal as u64;
+    }
+    let s = read.state;
+    preview_on(s, arena, addr, val)
 }
 
 // Runs so many clocks: samples made in bits 8..31, the clock of the rise in bits 32..63 (H6).

@@ -30,6 +30,7 @@ pub enum Call {
     Read(u16),
     Peek(u16),
     Write(u16, u8),
+    Preview(u16, u8),
     ChrRead(u16),
     ChrWrite(u16, u8),
     // How many bytes were named.
@@ -110,7 +111,7 @@ fn at_address(line: &[u8], n: Name) -> Call {
     }
 }
 
-// A call that writes a byte to an address.
+// A call with an address and a byte.
 fn to_address(line: &[u8], n: Name) -> Call {
     let a = parse_address(word(line, 1));
     let Address::At(addr) = a else {
@@ -122,6 +123,7 @@ fn to_address(line: &[u8], n: Name) -> Call {
     };
     match n {
         Name::Write => Call::Write(addr, val),
+        Name::Preview => Call::Preview(addr, val),
         _ => Call::ChrWrite(addr, val),
     }
 }
@@ -209,7 +211,7 @@ fn fits(n: Name, words: usize) -> bool {
     match n {
         Name::Load => words == 10,
         Name::Read | Name::Peek | Name::ChrRead | Name::Reset => words == 1,
-        Name::Write | Name::ChrWrite | Name::RegionPeek | Name::Run => words == 2,
+        Name::Write | Name::Preview | Name::ChrWrite | Name::RegionPeek | Name::Run => words == 2,
         Name::RegionWrite => words == 3,
         Name::Fill => (words == 1) | (words == 2),
         _ => words == 0,
@@ -224,7 +226,7 @@ pub fn parse_call(n: Name, line: &[u8], bytes: &mut [u8]) -> Call {
     match n {
         Name::Load => load(line),
         Name::Read | Name::Peek | Name::ChrRead => at_address(line, n),
-        Name::Write | Name::ChrWrite => to_address(line, n),
+        Name::Write | Name::Preview | Name::ChrWrite => to_address(line, n),
         Name::Fill => fill(line, bytes),
         Name::RegionPeek => region_peek(line),
         Name::RegionWrite => region_write(line),

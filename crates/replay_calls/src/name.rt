@@ -7,6 +7,7 @@ pub enum Name {
     Read,
     Peek,
     Write,
+    Preview,
     ChrRead,
     ChrWrite,
     Fill,
@@ -32,6 +33,9 @@ fn byte_name(word: &[u8]) -> Name {
     }
     if same(word, b"write") {
         return Name::Write;
+    }
+    if same(word, b"preview") {
+        return Name::Preview;
     }
     if same(word, b"chr-read") {
         return Name::ChrRead;
@@ -99,6 +103,7 @@ pub fn put_usage(out: &mut [u8], at: usize, n: Name) -> usize {
         Name::Read => put_all(out, at, b"read ADDR, up to $FFFF"),
         Name::Peek => put_all(out, at, b"peek ADDR, up to $FFFF"),
         Name::Write => put_all(out, at, b"write ADDR VAL, up to $FFFF and $FF"),
+        Name::Preview => put_all(out, at, b"preview ADDR VAL, up to $FFFF and $FF"),
         Name::ChrRead => put_all(out, at, b"chr-read ADDR, up to $FFFF"),
         Name::ChrWrite => put_all(out, at, b"chr-write ADDR VAL, up to $FFFF and $FF"),
         Name::Fill => put_all(out, at, b"fill REGION HEX, two digits a byte"),

@@ -120,6 +120,12 @@ fn peek(s: State, arena: &[u8], out: &mut [u8], at: usize, addr: u16) -> usize {
     answers::byte(out, at, r.refusal, r.byte)
 }
 
+fn preview(s: State, arena: &[u8], out: &mut [u8], at: usize, addr: u16, val: u8) -> usize {
+    let r = call_preview::preview(s, arena, addr, val);
+    let changed = r.changed;
+    answers::written(out, at, r.refusal, changed)
+}
+
 fn chr_read(s: State, arena: &[u8], out: &mut [u8], at: usize, addr: u16) -> usize {
     let r: Peeked = call_regions::chr_read(s, arena, addr);
     answers::byte(out, at, r.refusal, r.byte)
@@ -190,6 +196,7 @@ fn keeping(
 ) -> usize {
     match call {
         Call::Peek(addr) => peek(s, arena, out, at, addr),
+        Call::Preview(addr, val) => preview(s, arena, out, at, addr, val),
         Call::ChrRead(addr) => chr_read(s, arena, out, at, addr),
         Call::ChrWrite(addr, val) => chr_write(s, arena, out, at, addr, val),
         Call::Fill(src, n) => fill(s, arena, out, at, src, bytes, n),

@@ -30,9 +30,10 @@ use Rattle.image_read.proofs.RoundTrip.{read-written, written-read}
 use Rattle.host_state.specs.HostState.{unaltered, runOwn}
 use Rattle.host.specs.Host.{onImage, stateIn, cpuOwn, hostLoad, hostReset, hostRead, hostWrite, hostRun}
 use Rattle.host.proofs.Refused as Host
-use Rattle.thm_machine.specs.Calls.{Held, Other, cpuRead, byte, CallTyped}
+use Rattle.call_preview.specs.Preview.{preview}
+use Rattle.thm_machine.specs.Calls.{Held, Other, cpuRead, cpuWrite, byte, changed, CallTyped}
 use Rattle.thm_machine.specs.Paper.{checks, paper}
-use Rattle.thm_machine.specs.Board.{otherGives, board}
+use Rattle.thm_machine.specs.Board.{replyOf, otherGives, board}
 use Rattle.thm_machine.specs.Start.{Loaded, loaded, zeroed}
 use Rattle.thm_machine.specs.Counter.{counterOf, lineOf, NoneTouches}
 use Rattle.thm_machine.proofs.Demand3 as Machine
@@ -148,6 +149,18 @@ pub demand-3-cutting : (l : Loaded) (calls others : List (Call Float Other))
     → (observed board calls (loaded l) .trace ≡ observed board others (loaded l) .trace)
     × (observed board calls (loaded l) .state ≡ observed board others (loaded l) .state)
 demand-3-cutting = Machine.cut-blind
+
+-- C23: nor does it in the answer of a question, which is any function of state and arena
+pub demand-3-question : {A : Type 0} (ask : Held → A) (l : Loaded) (calls others : List (Call Float Other))
+    → outline (observed board calls (loaded l) .trace) ≡ outline (observed board others (loaded l) .trace)
+    → ask (observed board calls (loaded l) .state) ≡ ask (observed board others (loaded l) .state)
+demand-3-question = Machine.question-blind
+
+-- L18: `preview` is one; it answers what the write would reply
+pub preview-is-the-reply : (h : Held) (addr v : ℕ) → let p = preview (h .state) (h .arena) addr v in
+    otherGives (cpuWrite addr v) h .reply ≡ replyOf (p .refusal) (changed (p .changed))
+unfolding preview otherGives
+preview-is-the-reply h addr v = refl
 
 -- ---- D3.2: a counter of 8000 + n with the line clear, left alone, first raises the line on clock 7FFF − n
 

@@ -4,7 +4,7 @@
 -- (specs/Paper.antt). The machine that is fed a list and `paper`, and the claims, are those of crates/cut: specs/Machine.antt and
 -- specs/Demand3.antt.
 use Prim.Native.Nat.{ℕ, _+_, _<_}
-use mathlib.Core.Path.{_≡_}
+use mathlib.Core.Path.{_≡_, ap}
 use mathlib.Core.Bool.{false}
 use mathlib.Core.List.{List, _++_}
 use lib.Ieee.{Float}
@@ -38,6 +38,12 @@ pub cut-blind : (l : Loaded) (calls others : List (Call Float Other))
     → (observed board calls (loaded l) .trace ≡ observed board others (loaded l) .trace)
     × (observed board calls (loaded l) .state ≡ observed board others (loaded l) .state)
 cut-blind l calls others e = demand-3 .cut-blind calls others (loaded l) e
+
+-- C23: so a question, which is any function of state and arena, has the same answer after both
+pub question-blind : {A : Type 0} (ask : Held → A) (l : Loaded) (calls others : List (Call Float Other))
+    → outline (observed board calls (loaded l) .trace) ≡ outline (observed board others (loaded l) .trace)
+    → ask (observed board calls (loaded l) .state) ≡ ask (observed board others (loaded l) .state)
+question-blind ask l calls others e = ap ask (cut-blind l calls others e .1)
 
 -- D3.2: the calls `first` lead from any state to a counter of 0x8000 + n with the line clear, and those of `rest`, none of which writes or
 -- resets it, make `more` clocks

@@ -1,0 +1,2 @@
+-- What a look before a write answers.
+pub mod Preview
