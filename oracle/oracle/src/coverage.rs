@@ -6,6 +6,7 @@
 mod banking;
 mod loads;
 mod memory;
+mod previews;
 mod reads;
 mod runs;
 
@@ -91,6 +92,8 @@ struct Played<'a> {
     answer: &'a str,
     before: Option<&'a View>,
     after: Option<&'a View>,
+    /// The call right before it, and its answer.
+    last: Option<(&'a Call, &'a str)>,
 }
 
 impl Played<'_> {
@@ -142,9 +145,10 @@ impl Counter<'_> {
 type Classes = fn() -> Vec<String>;
 type Observe = fn(&Played, &mut Counter);
 
-const AREAS: [(Classes, Observe); 5] = [
+const AREAS: [(Classes, Observe); 6] = [
     (loads::classes, loads::observe),
     (banking::classes, banking::observe),
+    (previews::classes, previews::observe),
     (reads::classes, reads::observe),
     (runs::classes, runs::observe),
     (memory::classes, memory::observe),
@@ -156,14 +160,17 @@ impl Coverage {
         let mut coverage = Self { counts: listed.map(|class| (class, 0)).collect(), unlisted: BTreeSet::new() };
         let mut player = Player::default();
         let mut before: Option<View> = None;
+        let mut last: Option<(&Call, String)> = None;
         for call in calls {
             let answer = player.call(call);
             let after = player.session.as_ref().map(View::of);
-            let played = Played { call, answer: &answer, before: before.as_ref(), after: after.as_ref() };
+            let last_played = last.as_ref().map(|(call, answer)| (*call, answer.as_str()));
+            let played = Played { call, answer: &answer, before: before.as_ref(), after: after.as_ref(), last: last_played };
             for (_, observe) in AREAS {
                 observe(&played, &mut Counter(&mut coverage));
             }
             before = after;
+            last = Some((call, answer));
         }
         coverage
     }

@@ -106,6 +106,7 @@ impl Generator {
         let refused = loads::refused(&mut self.rng);
         self.say(Call::Load(refused));
         self.say(Call::Run { clocks: 15, room: 1 });
+        self.say(Call::Preview(0x8000, 0xE1));
     }
 
     fn load(&mut self) {

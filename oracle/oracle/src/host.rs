@@ -1,5 +1,5 @@
 // SPDX-License-Identifier: MIT OR Apache-2.0
-//! The host's five calls on an image, an arena and sample bytes, by the Rust: H4 to H8, and N20's rows of a C host.
+//! The host's six calls on an image, an arena and sample bytes, by the Rust: H4 to H8, and N20's rows of a C host.
 
 use crate::{
     image::{self, LEN},
@@ -15,6 +15,7 @@ pub enum HostCall {
     Load(Load),
     Read(u16),
     Write(u16, u8),
+    Preview(u16, u8),
     Run(u64),
     Reset(u64),
 }
@@ -81,6 +82,8 @@ impl Host {
             HostCall::Load(load) => self.load(&load),
             HostCall::Read(addr) => self.state()?.read(addr).map(read_word),
             HostCall::Write(addr, val) => self.state()?.write(addr, val).map(write_word),
+            // L18, H4: the word alone; no image is written.
+            HostCall::Preview(addr, val) => return self.state()?.preview(addr, val).map(write_word),
             HostCall::Run(clocks) => self.run(clocks),
             HostCall::Reset(kind) => self.state()?.reset(kind).map(|()| 0),
         }?;

@@ -57,6 +57,7 @@ fn answer(session: &mut Session, call: &Call) -> Result<String, Refusal> {
         Call::Read(addr) => session.read(*addr).map(byte),
         Call::Peek(addr) => session.peek(*addr).map(byte),
         Call::Write(addr, val) => session.write(*addr, *val).map(written),
+        Call::Preview(addr, val) => session.preview(*addr, *val).map(written),
         Call::ChrRead(addr) => session.chr_read(*addr).map(byte),
         Call::ChrWrite(addr, val) => session.chr_write(*addr, *val).map(ok),
         Call::Fill(region, bytes) => session.fill(*region, bytes).map(ok),

@@ -51,7 +51,7 @@ impl Changed {
     }
 }
 
-/// A CPU write's answer.
+/// The answer of a CPU write, and of its preview (L18).
 #[derive(Debug, Clone, Copy, PartialEq, Eq)]
 pub struct Written {
     pub prg: Changed,
@@ -123,6 +123,11 @@ impl Session {
             leave_unmapped(&mut self.memory);
         }
         Ok(Written { prg: Changed::between(&prg, self.memory.prg_pages()), chr: Changed::between(&chr, self.memory.chr_pages()) })
+    }
+
+    /// L18: what the write would answer. It is made on a copy.
+    pub fn preview(&self, addr: u16, val: u8) -> Result<Written, Refusal> {
+        self.clone().write(addr, val)
     }
 
     pub fn chr_read(&self, addr: u16) -> Result<u8, Refusal> {

@@ -6,7 +6,7 @@ use crate::{session::RAM_WINDOW, text::Call};
 use tetanes::{m019_namco163::Board, memory::Page, ppu::Mirroring};
 
 /// L11's rows; 8000..BFFF is two, by the selects of L12.
-const ROWS: [(&str, u16, u16); 12] = [
+pub const ROWS: [(&str, u16, u16); 12] = [
     ("4800..4FFF", 0x4800, 0x4FFF),
     ("5000..57FF", 0x5000, 0x57FF),
     ("5800..5FFF", 0x5800, 0x5FFF),
@@ -25,7 +25,7 @@ const ROWS: [(&str, u16, u16); 12] = [
 const KINDS: [&str; 7] = ["163", "detecting 163", "detecting Unknown", "175", "detecting 175", "340", "detecting 340"];
 
 /// Every change of board that detection can make: rows, from, to.
-const CHANGES: [(&[&str], &str, &str); 8] = [
+pub const CHANGES: [(&[&str], &str, &str); 8] = [
     (&["4800..4FFF", "5000..57FF", "5800..5FFF", "C800..DFFF", "F800..FFFF"], "Unknown", "163"),
     (&["4800..4FFF", "5000..57FF", "5800..5FFF", "C800..DFFF", "F800..FFFF"], "175", "163"),
     (&["4800..4FFF", "5000..57FF", "5800..5FFF", "C800..DFFF", "F800..FFFF"], "340", "163"),
@@ -139,7 +139,7 @@ fn never_from_a_load(after: &View, counter: &mut Counter) {
     counter.never(!after.zeros, "a byte other than 0 in the zero page");
 }
 
-fn row(addr: u16) -> &'static str {
+pub fn row(addr: u16) -> &'static str {
     let within = |(_, first, last): &&(&str, u16, u16)| (*first..=*last).contains(&addr);
     ROWS.iter().find(within).map_or("below 4800", |(name, ..)| name)
 }

@@ -1,5 +1,5 @@
 // SPDX-License-Identifier: MIT OR Apache-2.0
-//! Reads, peeks and addresses: edges of every range, the sound port, CHR.
+//! Reads, peeks and the addresses of all CPU calls: edges of every range, the sound port, CHR.
 
 use super::{BOARDS, Counter, Played, View};
 use crate::text::Call;
@@ -27,7 +27,7 @@ pub fn classes() -> Vec<String> {
     ]
     .map(String::from)
     .into();
-    for name in ["read", "peek", "write"] {
+    for name in ["read", "peek", "write", "preview"] {
         classes.extend(edges().map(|addr| format!("{name} {addr:04X}")));
         classes.push(format!("{name} refused at 47FF"));
         classes.push(format!("{name} refused below 47FF"));
@@ -58,6 +58,7 @@ pub fn observe(played: &Played, counter: &mut Counter) {
             let wraps = before.chip.audio.addr == 0x7F && after.chip.audio.addr == 0;
             counter.hit_if((0x4800..0x5000).contains(addr) && wraps, "write goes from 7F to 0");
         }
+        Call::Preview(addr, _) => address("preview", played, *addr, counter),
         Call::ChrRead(addr) => chr_read(played, before, *addr, counter),
         Call::ChrWrite(addr, _) => chr_write(before, *addr, counter),
         _ => (),

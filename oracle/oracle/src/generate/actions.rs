@@ -17,6 +17,7 @@ pub const ACTIONS: &[(u64, Action)] = &[
     (8, register_write),
     (9, cpu_read),
     (4, cpu_peek),
+    (4, preview),
     (4, detection),
     (4, change_board),
     (6, slots),
@@ -62,7 +63,11 @@ impl Generator {
         self.rng.address(first, last)
     }
 
+    /// A write, often with a preview or two before it (L18).
     fn write(&mut self, addr: u16, val: u8) {
+        for _ in 0..self.rng.pick(&[0, 0, 0, 0, 0, 1, 1, 2]) {
+            self.say(Call::Preview(addr, val));
+        }
         self.say(Call::Write(addr, val));
     }
 
@@ -127,6 +132,21 @@ fn cpu_peek(g: &mut Generator) {
     g.say(Call::Peek(addr));
 }
 
+/// L18: previews without their write; of a store, with a read that shows that it was not made; and below 4800.
+fn preview(g: &mut Generator) {
+    let val = g.value();
+    let kind = g.rng.below(8);
+    let addr = match kind {
+        0 => g.address(0, FIRST - 1),
+        1..4 => g.address(0x6000, 0x7FFF),
+        _ => g.address(FIRST, 0xFFFF),
+    };
+    g.say(Call::Preview(addr, val));
+    if (1..4).contains(&kind) {
+        g.say(Call::Read(addr));
+    }
+}
+
 /// The writes that a detecting board listens to.
 fn detection(g: &mut Generator) {
     let (range, values): (u64, &[u8]) = g.rng.pick(&[
@@ -170,7 +190,7 @@ fn change_board(g: &mut Generator) {
 /// Up to four actions that leave the board as it is.
 pub fn quiet(g: &mut Generator) {
     for _ in 0..g.rng.below(5) {
-        let action: Action = g.rng.pick(&[quiet_write, quiet_write, cpu_read, sound_read, chr, battery, run]);
+        let action: Action = g.rng.pick(&[quiet_write, quiet_write, cpu_read, preview, sound_read, chr, battery, run]);
         action(g);
     }
 }
@@ -406,12 +426,13 @@ fn look(g: &mut Generator) {
 fn refused(g: &mut Generator) {
     let addr = if g.rng.once_in(3) { FIRST as u16 - 1 } else { g.address(0, FIRST - 1) };
     let val = g.rng.byte();
-    let call = g.rng.below(5);
+    let call = g.rng.below(7);
     let load = loads::refused(&mut g.rng);
     g.say(match call {
         0 => Call::Read(addr),
         1 => Call::Peek(addr),
         2 | 3 => Call::Write(addr, val),
+        4 | 5 => Call::Preview(addr, val),
         _ => Call::Load(load),
     });
 }

@@ -1,12 +1,13 @@
 // SPDX-License-Identifier: MIT OR Apache-2.0
-//! Results at the edges of the clauses of docs/SCOPE.md, on the Rust: a file for each letter, one for L11, and one
-//! for M5 without PRG-RAM.
+//! Results at the edges of the clauses of docs/SCOPE.md, on the Rust: a file for each letter, one for L11, one for L18, and one for M5
+//! without PRG-RAM.
 
 mod clock;
 mod host;
 mod load;
 mod memory;
 mod no_ram;
+mod preview;
 mod records;
 mod refusals;
 mod registers;
@@ -14,12 +15,13 @@ mod sound;
 
 use super::checks::Check;
 
-pub const SECTIONS: [(&str, Check); 9] = [
+pub const SECTIONS: [(&str, Check); 10] = [
     ("R: records", records::check),
     ("M: memory", memory::check),
     ("M5: carts without PRG-RAM", no_ram::check),
     ("L: load, detection and banking", load::check),
     ("L11: register writes", registers::check),
+    ("L18: previews", preview::check),
     ("S: sound", sound::check),
     ("C: clocks, reset, battery", clock::check),
     ("H: host and image", host::check),

@@ -60,9 +60,11 @@ pub fn recuts(t: &mut Checks) {
         }
         let heard = trace.stretches.iter().any(|stretch| stretch.samples.iter().any(|sample| sample != "$00000000"));
         t.holds("there are samples", heard);
+        t.holds("there are previews", lines(&calls).any(|line| line.starts_with(b"preview ")));
         t.holds("there are rises", trace.stretches.iter().any(|stretch| !stretch.rises.is_empty()));
     }
     rises_since_load(t);
+    previews_cut(t);
 }
 
 fn first_difference(left: &Trace, right: &Trace) -> Option<String> {
@@ -88,15 +90,31 @@ fn rises_since_load(t: &mut Checks) {
     t.eq("rises of the stretches", rises, vec![vec![], vec![], vec![], vec![], vec![2]]);
 }
 
+/// C13, L18: a preview is another call. It cuts a stretch as a peek does, and its answer is the same however clocks are cut.
+fn previews_cut(t: &mut Checks) {
+    let list = |other| format!("load 19 0 0 1 32768 8192 128 8192 0 2048\nrun 20 1\n{other}\nrun 40 3\n").into_bytes();
+    let (peek, preview) = (Trace::of(&list("peek $8000")), Trace::of(&list("preview $8000 $E1")));
+    t.eq("its stretches", &preview.stretches, &peek.stretches);
+    t.eq("their clocks", preview.stretches.iter().map(|stretch| stretch.clocks).collect(), vec![0, 20, 40]);
+    t.eq("its answer", preview.others.last().map(String::as_str), Some("ok $0000000000000000 0 64 $0001 1 0"));
+    for cut in 0..8 {
+        t.eq("recut", first_difference(&preview, &Trace::of(&recut(&list("preview $8000 $E1"), cut))), None);
+    }
+}
+
 /// A kind of answer: its name, the calls that give it, which word to change and which digit of it, from the end.
 type Kind = (&'static str, fn(&Call, &str) -> bool, usize, usize);
 
-const KINDS: [Kind; 13] = [
+const KINDS: [Kind; 17] = [
     ("a read's byte", |call, answer| matches!(call, Call::Read(_)) && answer.starts_with("ok"), 1, 0),
     ("a write's PRG mask", |call, answer| matches!(call, Call::Write(..)) && answer.contains(" 8 24 "), 1, 7),
     ("a write's PRG count", |call, answer| matches!(call, Call::Write(..)) && answer.contains(" 8 32 "), 2, 0),
     ("a write's lowest PRG page", |call, answer| matches!(call, Call::Write(..)) && answer.contains(" 0 64 "), 3, 0),
     ("a write's CHR mask", |call, answer| matches!(call, Call::Write(..)) && answer.ends_with(" 8 8"), 4, 2),
+    ("a preview's PRG mask", |call, answer| matches!(call, Call::Preview(..)) && answer.contains(" 8 24 "), 1, 7),
+    ("a preview's PRG count", |call, answer| matches!(call, Call::Preview(..)) && answer.contains(" 8 32 "), 2, 0),
+    ("a preview's lowest CHR page", |call, answer| matches!(call, Call::Preview(..)) && answer.ends_with(" 0 16"), 6, 0),
+    ("a preview's CHR mask", |call, answer| matches!(call, Call::Preview(..)) && answer.ends_with(" 8 8"), 4, 2),
     ("a run's samples made", |call, answer| matches!(call, Call::Run { .. }) && answer.starts_with("ok 1 "), 1, 0),
     ("a run's rise", |call, answer| matches!(call, Call::Run { .. }) && rose(answer), 2, 0),
     ("a sample's last bit", |call, answer| matches!(call, Call::Run { .. }) && answer.starts_with("ok 2 0 $3"), 4, 0),

@@ -33,6 +33,8 @@ fn numbers(t: &mut Checks) {
         ("write $E000 63", Call::Write(0xE000, 63)),
         ("write 57344 $3f", Call::Write(0xE000, 63)),
         ("write $0e000 063", Call::Write(0xE000, 63)),
+        ("preview $E000 63", Call::Preview(0xE000, 63)),
+        ("preview 65535 $fF", Call::Preview(0xFFFF, 0xFF)),
         ("region-peek chr 18446744073709551615", Call::RegionPeek(Region::Chr, u64::MAX)),
         ("region-peek chr $FFFFFFFFFFFFFFFF", Call::RegionPeek(Region::Chr, u64::MAX)),
         ("fill battery 00fF", Call::Fill(Region::Battery, vec![0x00, 0xFF])),
@@ -47,7 +49,7 @@ fn numbers(t: &mut Checks) {
     }
 }
 
-const MALFORMED: [&str; 30] = [
+const MALFORMED: [&str; 36] = [
     " ",
     "jump",
     "Read $8000",
@@ -65,6 +67,12 @@ const MALFORMED: [&str; 30] = [
     "read 18446744073709551616",
     "write $8000",
     "write $8000 256",
+    "Preview $8000 1",
+    "preview",
+    "preview $8000",
+    "preview $8000 256",
+    "preview 65536 1",
+    "preview $8000 1 1",
     "chr-read 65536",
     "chr-write 0 $100",
     "fill ex-ram 00",
@@ -94,18 +102,24 @@ fn malformed(t: &mut Checks) {
 }
 
 /// A short session, with answers in the forms of README.md's table of lines.
-const SESSION: [(&str, &str); 29] = [
+const SESSION: [(&str, &str); 35] = [
     ("sram", NO_CARTRIDGE),
     ("load 20 0 0 1 32768 8192 128 8192 0 2048", "refused 4"),
     ("run 0 0", NO_CARTRIDGE),
     ("arena", NO_CARTRIDGE),
+    ("preview $8000 $E1", NO_CARTRIDGE),
     ("load 19 0 0 1 32768 8192 128 8192 0 2048", "ok"),
     ("load 19 0 0 1 32768 8192 0 8192 0 2048", "refused 6"),
     ("load 19 0 0 1 524289 8192 0 8192 0 2048", "refused 5"),
     ("sram", "ok 41984 8320"),
+    ("preview $8000 $E1", "ok $0000000000000000 0 64 $0001 1 0"),
+    ("preview $E000 $3F", "ok $000000FF00000000 8 32 $0000 0 16"),
     ("write $8000 $E1", "ok $0000000000000000 0 64 $0001 1 0"),
     ("write $E000 $3F", "ok $000000FF00000000 8 32 $0000 0 16"),
+    ("preview $47FF 0", "refused 8"),
     ("write $47FF 0", "refused 8"),
+    ("preview $6000 $aB", "ok $0000000000000000 0 64 $0000 0 16"),
+    ("read $6000", "ok $00"),
     ("write $6000 $aB", "ok $0000000000000000 0 64 $0000 0 16"),
     ("read $6000", "ok $AB"),
     ("peek $6400", "ok $00"),

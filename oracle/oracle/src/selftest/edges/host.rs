@@ -14,6 +14,7 @@ use oracle::{
 
 pub fn check(t: &mut Checks) {
     words(t);
+    previews(t);
     samples(t);
     refusals(t);
     loads(t);
@@ -40,6 +41,26 @@ fn words(t: &mut Checks) {
     t.eq("a read's word", [0x5000, 0x5800].map(|addr| host.call(HostCall::Read(addr))), [0x5A00, 0xA500]);
 }
 
+/// L18, H6: a preview's word, twice, with image and arena as they were, and then the write's.
+fn previews(t: &mut Checks) {
+    for (load, addr, val, word) in [
+        (P, 0x8000, 0xE1, 0x100),
+        (P, 0xE000, 0x3F, 0xFF_0000_0000),
+        (P, 0x6000, 0x12, 0),
+        (P, 0x47FF, 0x00, 8),
+        (D, 0xE000, 0x80, 0xFFFF_0000),
+        (N175, 0xC000, 0x01, 0xFF00_0000),
+    ] {
+        let mut host = Host::new(loaded(load));
+        let (image, arena) = (host.image().to_vec(), host.arena().to_vec());
+        let preview = HostCall::Preview(addr, val);
+        t.eq(&format!("{preview:X?}, twice"), [host.call(preview), host.call(preview)], [word; 2]);
+        t.holds("it alters nothing", host.image() == image && host.arena() == arena);
+        t.eq("the write", host.call(HostCall::Write(addr, val)), word);
+        t.eq("and that alters something", host.image() != image || host.arena() != arena, word != 8);
+    }
+}
+
 /// H7, N11: a sample's bytes, and what is lent behind it or is too short for it.
 fn samples(t: &mut Checks) {
     for (lent, word, left) in [
@@ -57,7 +78,7 @@ fn samples(t: &mut Checks) {
     }
 }
 
-/// N20, a host's read, write, run and reset: everything wrong, then one thing after another mended.
+/// N20, a host's read, write, preview, run and reset: everything wrong, then one thing after another mended.
 fn refusals(t: &mut Checks) {
     let fit = image::encode(&loaded(P));
     let mut bad = fit;
@@ -67,6 +88,7 @@ fn refusals(t: &mut Checks) {
     for (call, answers) in [
         (HostCall::Read(0x47FF), [1, 2, 7, 8]),
         (HostCall::Write(0x47FF, 1), [1, 2, 7, 8]),
+        (HostCall::Preview(0x47FF, 1), [1, 2, 7, 8]),
         (HostCall::Run((1 << 32) + 5), [1, 2, 10, 10]),
         (HostCall::Run(65_536), [1, 2, 10, 10]),
         (HostCall::Run(29_782), [1, 2, 10, 10]),
