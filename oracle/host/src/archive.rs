@@ -13,6 +13,7 @@ pub fn call(call: HostCall, image: &mut Lent, arena: &mut Lent, samples: &mut Le
             HostCall::Load(load) => load_call(&load, (image, image_len), (arena, arena_len)),
             HostCall::Read(addr) => namco163_read(image, image_len, arena, arena_len, addr),
             HostCall::Write(addr, val) => namco163_write(image, image_len, arena, arena_len, addr, val),
+            HostCall::Preview(addr, val) => namco163_preview(image, image_len, arena, arena_len, addr, val),
             HostCall::Run(clocks) => namco163_run(image, image_len, samples, samples_len, clocks),
             HostCall::Reset(kind) => namco163_reset(image, image_len, kind),
         }

@@ -4,7 +4,7 @@
 use oracle::host::HostCall;
 use std::{collections::BTreeMap, fmt};
 
-const KINDS: [&str; 5] = ["load", "read", "write", "run", "reset"];
+const KINDS: [&str; 6] = ["load", "read", "write", "preview", "run", "reset"];
 
 /// Refusals that a host can meet.
 const REFUSALS: [usize; 10] = [1, 2, 3, 4, 5, 6, 7, 8, 10, 11];
@@ -12,7 +12,7 @@ const REFUSALS: [usize; 10] = [1, 2, 3, 4, 5, 6, 7, 8, 10, 11];
 #[derive(Default)]
 pub struct Counts {
     /// For each kind of call, how often it was accepted and refused.
-    kinds: [(u64, u64); 5],
+    kinds: [(u64, u64); KINDS.len()],
     refusals: [u64; 13],
     reached: BTreeMap<&'static str, u64>,
 }
@@ -27,8 +27,9 @@ impl Counts {
             HostCall::Load(_) => 0,
             HostCall::Read(_) => 1,
             HostCall::Write(..) => 2,
-            HostCall::Run(_) => 3,
-            HostCall::Reset(_) => 4,
+            HostCall::Preview(..) => 3,
+            HostCall::Run(_) => 4,
+            HostCall::Reset(_) => 5,
         };
         match word as u8 {
             0 => self.kinds[kind].0 += 1,

@@ -1,7 +1,10 @@
 // SPDX-License-Identifier: MIT OR Apache-2.0
 //! Random arguments of calls.
 
-use crate::pair::{Compared, Pair};
+use crate::{
+    pair::{Compared, Pair},
+    previews,
+};
 use oracle::{
     host::HostCall,
     rng::Rng,
@@ -39,10 +42,11 @@ fn clocks(rng: &mut Rng) -> u64 {
 
 /// A call that nothing in its numbers refuses.
 pub fn fit_call(rng: &mut Rng) -> HostCall {
-    match rng.below(16) {
+    match rng.below(18) {
         0..8 => HostCall::Write(address(rng), value(rng)),
-        8..11 => HostCall::Read(address(rng)),
-        11..15 => HostCall::Run(clocks(rng)),
+        8..10 => HostCall::Preview(address(rng), value(rng)),
+        10..13 => HostCall::Read(address(rng)),
+        13..17 => HostCall::Run(clocks(rng)),
         _ => HostCall::Reset(rng.below(2)),
     }
 }
@@ -52,10 +56,13 @@ pub fn make_fit(pair: &mut Pair, rng: &mut Rng) -> Compared<u64> {
     make(pair, rng, call)
 }
 
-/// Makes a call; a run is first lent samples, by one of the lengths.
+/// Makes a call. A run is first lent samples, by one of the lengths; a write is at times previewed before it.
 pub fn make(pair: &mut Pair, rng: &mut Rng, call: HostCall) -> Compared<u64> {
-    if let HostCall::Run(clocks) = call {
-        lend_room(pair, rng, clocks);
+    match call {
+        HostCall::Run(clocks) => lend_room(pair, rng, clocks),
+        HostCall::Write(addr, val) if rng.once_in(6) => return previews::then_write(pair, rng, addr, val),
+        HostCall::Preview(addr, val) => return previews::preview(pair, addr, val),
+        _ => (),
     }
     pair.call(call)
 }

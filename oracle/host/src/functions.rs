@@ -1,5 +1,5 @@
 // SPDX-License-Identifier: MIT OR Apache-2.0
-//! The archive's five functions, as include/namco163.h declares them. The benchmark uses this file too.
+//! The archive's six functions, as include/namco163.h declares them. The benchmark uses this file too.
 
 use std::ffi::c_void;
 
@@ -24,6 +24,7 @@ unsafe extern "C" {
     ) -> u64;
     pub fn namco163_read(image: Bytes, image_len: usize, arena: Bytes, arena_len: usize, addr: u16) -> u64;
     pub fn namco163_write(image: Bytes, image_len: usize, arena: Bytes, arena_len: usize, addr: u16, val: u8) -> u64;
+    pub fn namco163_preview(image: *const c_void, image_len: usize, arena: *const c_void, arena_len: usize, addr: u16, val: u8) -> u64;
     pub fn namco163_run(image: Bytes, image_len: usize, samples: Bytes, samples_len: usize, clocks: u64) -> u64;
     pub fn namco163_reset(image: Bytes, image_len: usize, kind: u64) -> u64;
 }

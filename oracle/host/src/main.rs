@@ -7,6 +7,7 @@ mod draw;
 mod functions;
 mod lent;
 mod pair;
+mod previews;
 mod sessions;
 mod states;
 mod unfit;

@@ -69,6 +69,11 @@ impl Pair {
         self.samples = self.block(&self.host.samples);
     }
 
+    /// Image, arena and samples, as the archive has left them.
+    pub fn lent(&self) -> [&[u8]; 3] {
+        [self.image.bytes(), self.arena.bytes(), self.samples.bytes()]
+    }
+
     /// Something that the host does by itself, between calls.
     pub fn edit(&mut self, change: impl FnOnce(&mut Session)) {
         self.host.edit(change);

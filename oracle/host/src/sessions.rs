@@ -49,6 +49,7 @@ fn step(pair: &mut Pair, rng: &mut Rng, call: Call, edits: bool) -> Compared<()>
     let call = match call {
         Call::Read(addr) | Call::Peek(addr) => HostCall::Read(addr),
         Call::Write(addr, val) => HostCall::Write(addr, val),
+        Call::Preview(addr, val) => HostCall::Preview(addr, val),
         Call::Run { clocks, .. } => HostCall::Run(clocks),
         Call::ResetSoft => HostCall::Reset(0),
         Call::ResetHard => HostCall::Reset(1),

@@ -114,6 +114,7 @@ fn each_call(pair: &mut Pair, rng: &mut Rng, base: &Base, image: &[u8]) -> Compa
     for call in [
         HostCall::Read(draw::address(rng)),
         HostCall::Write(draw::address(rng), rng.byte()),
+        HostCall::Preview(draw::address(rng), rng.byte()),
         HostCall::Run(rng.below(40)),
         HostCall::Reset(rng.below(2)),
     ] {
@@ -208,13 +209,14 @@ pub fn several_wrong(pair: &mut Pair, rng: &mut Rng, calls: u64) -> Compared<()>
 /// A call of any kind whose numbers are unfit in one of three.
 fn any_call(rng: &mut Rng) -> HostCall {
     let fit = !rng.once_in(3);
-    match rng.below(6) {
+    match rng.below(7) {
         0 | 1 => HostCall::Load(if fit { loads::accepted(rng) } else { unfit_load(rng) }),
         2 if fit => HostCall::Reset(rng.below(2)),
         2 => HostCall::Reset(rng.pick(&[2, 3, 256, 1 << 32, (1 << 32) + 1, 1 << 63, u64::MAX])),
         3 if fit => HostCall::Run(rng.below(100)),
         3 => HostCall::Run(rng.pick(&[RUN_LIMIT, RUN_LIMIT + 1, RUN_LIMIT + 1, 65_536, 1 << 32, (1 << 32) + 5, u64::MAX])),
         4 => HostCall::Read(if fit { draw::address(rng) } else { low_address(rng) }),
+        5 => HostCall::Preview(if fit { draw::address(rng) } else { low_address(rng) }, rng.byte()),
         _ => HostCall::Write(if fit { draw::address(rng) } else { low_address(rng) }, rng.byte()),
     }
 }
