@@ -37,7 +37,7 @@ extern "C" {
 
 /* The version of this header and of the archive that belongs to it. */
 #define NAMCO163_VERSION_MAJOR 0
-#define NAMCO163_VERSION_MINOR 5
+#define NAMCO163_VERSION_MINOR 6
 #define NAMCO163_VERSION_PATCH 0
 #define NAMCO163_TEXT_OF(x) #x
 #define NAMCO163_TEXT(x) NAMCO163_TEXT_OF(x)
@@ -66,13 +66,13 @@ extern "C" {
 enum namco163_refusals {
     NAMCO163_ACCEPTED = 0,
     NAMCO163_IMAGE_LENGTH = 1,   /* every call: the image's length is not 307 */
-    NAMCO163_OUT_OF_RANGE = 2,   /* read, write, run, reset: the image holds a field that no state has */
+    NAMCO163_OUT_OF_RANGE = 2,   /* read, write, preview, run, reset: the image holds a field that no state has */
     NAMCO163_RESET_KIND = 3,     /* reset: the kind is neither 0 nor 1 */
     NAMCO163_MAPPER = 4,         /* load: the mapper is neither 19 nor 210 */
     NAMCO163_SIZE = 5,           /* load: a size is above its limit */
     NAMCO163_NO_BATTERY = 6,     /* load: mapper 19 with a battery reserve of 0 bytes */
-    NAMCO163_ARENA_LENGTH = 7,   /* load, read, write: the arena's length is not that of the sizes */
-    NAMCO163_ADDRESS = 8,        /* read, write: the CPU address is below 4800 */
+    NAMCO163_ARENA_LENGTH = 7,   /* load, read, write, preview: the arena's length is not that of the sizes */
+    NAMCO163_ADDRESS = 8,        /* read, write, preview: the CPU address is below 4800 */
     NAMCO163_FILL_LENGTH = 9,    /* no C call: a fill is longer than its region */
     NAMCO163_CLOCKS = 10,        /* run: more than 29,781 clocks */
     NAMCO163_SAMPLES_LENGTH = 11, /* run: there is no room for the samples that it makes; whole groups of 4 bytes count */
@@ -110,6 +110,11 @@ uint64_t namco163_read(uint8_t *image, size_t image_len, const uint8_t *arena, s
  * the new ones. */
 uint64_t namco163_write(uint8_t *image, size_t image_len, uint8_t *arena, size_t arena_len, uint16_t addr, uint8_t val);
 
+/* A look before a write: answers the word that namco163_write would answer to the same address and value (namco163_prg_mask,
+ * namco163_chr_mask), or refusal 1, 2, 7, 8 as it would, and alters nothing. Of the arena the length alone counts: that a byte
+ * would be stored is not in the word. */
+uint64_t namco163_preview(const uint8_t *image, size_t image_len, const uint8_t *arena, size_t arena_len, uint16_t addr, uint8_t val);
+
 /* So many CPU clocks, 0..29,781: counts the IRQ counter and plays the sound, in the image. Each 15th enabled clock of a 163 makes one
  * sample; the samples go to the start of `samples`, and the bytes behind them stay. How clocks are cut into runs does not show in samples,
  * rises or state. Answers how many samples were made (namco163_samples), and on which clock of this run, from 1, the counter reached its
@@ -131,10 +136,11 @@ static inline unsigned namco163_refusal(uint64_t answer) { return (unsigned)(ans
 /* A read: the byte. */
 static inline uint8_t namco163_byte(uint64_t answer) { return (uint8_t)(answer >> 8 & 0xFF); }
 
-/* A write: bit k is set if CHR entry k (PPU addresses 400 * k on) changed. */
+/* A write or a preview: bit k is set if CHR entry k (PPU addresses 400 * k on) changed. */
 static inline uint16_t namco163_chr_mask(uint64_t answer) { return (uint16_t)(answer >> 8 & 0xFFFF); }
 
-/* A write: bit k is set if PRG entry k (CPU addresses 400 * k on) changed. Bits 0..23, the addresses below 6000, are never set. */
+/* A write or a preview: bit k is set if PRG entry k (CPU addresses 400 * k on) changed. Bits 0..23, the addresses below 6000, are never
+ * set. */
 static inline uint64_t namco163_prg_mask(uint64_t answer) { return answer >> 24 << 24; }
 
 /* A run: how many samples it made. */

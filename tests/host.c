@@ -1,5 +1,5 @@
 /* SPDX-License-Identifier: MIT OR Apache-2.0 */
-/* The five calls and the header's helpers, from C99 and C++11: answers, refusals in their order, and what a refused call leaves as it
+/* The six calls and the header's helpers, from C99 and C++11: answers, refusals in their order, and what a refused call leaves as it
  * was. */
 #include <stdio.h>
 #include <stdlib.h>
@@ -43,6 +43,10 @@ static uint64_t read_at(unsigned addr) { return namco163_read(image, NAMCO163_IM
 static uint64_t write_at(unsigned addr, unsigned val) {
     return namco163_write(image, NAMCO163_IMAGE_SIZE, arena, lent, (uint16_t)addr, (uint8_t)val);
 }
+static uint64_t preview_of(const uint8_t *of_image, const uint8_t *of_arena, unsigned addr, unsigned val) {
+    return namco163_preview(of_image, NAMCO163_IMAGE_SIZE, of_arena, lent, (uint16_t)addr, (uint8_t)val);
+}
+static uint64_t preview(unsigned addr, unsigned val) { return preview_of(image, arena, addr, val); }
 static uint64_t run(uint64_t clocks) { return namco163_run(image, NAMCO163_IMAGE_SIZE, samples, SAMPLES, clocks); }
 static void set_counter(unsigned counter) {
     EQUAL(write_at(0x5000, counter & 0xFF), 0);
@@ -401,6 +405,60 @@ static void test_lent_zero_page(void) {
     EQUAL(write_at(0xE000, 0x00), 0);
 }
 
+/* L18: whether two previews answer this word and leave all that is lent, and the write then answers it too. */
+static int previewed(unsigned addr, unsigned val, uint64_t word) {
+    keep();
+    if (preview(addr, val) != word || !kept() || preview(addr, val) != word || !kept()) return 0;
+    return write_at(addr, val) == word && (namco163_refusal(word) || !kept());
+}
+
+/* L18, H6: a preview has the write's word; what it previews is not stored and makes no other board. */
+static void test_preview(void) {
+    EQUAL(load(19, 1, 32768, 128), 0);
+    CHECK(previewed(0x8000, 0xE1, 0x100));
+    CHECK(previewed(0xE000, 0x3F, 0xFF00000000));
+    EQUAL(preview(0xE000, 0x3F), 0);
+    EQUAL(preview(0x6000, 0x12), 0);
+    EQUAL(read_at(0x6000), 0);
+    CHECK(previewed(0x6000, 0x12, 0));
+    EQUAL(read_at(0x6000), 0x1200);
+    CHECK(previewed(0x47FF, 0x00, NAMCO163_ADDRESS));
+    EQUAL(load(19, 0, 32768, 128), 0);
+    EQUAL(preview(0xE000, 0x80), 0xFFFF0000);
+    EQUAL(namco163_board(image), NAMCO163_163);
+    CHECK(previewed(0xE000, 0x80, 0xFFFF0000));
+    EQUAL(namco163_board(image), NAMCO163_340);
+    EQUAL(preview(0x6000, 0x01), 0);
+    CHECK(!namco163_settled(image) && namco163_prg_mask(preview(0xC000, 0x01)) == 0xFF000000);
+    EQUAL(namco163_load(image, 307, arena, ARENA, 210, 1, 0, 0, 32768, 8192, 128, 8192, 0, 2048), 0);
+    CHECK(previewed(0xC000, 0x01, 0xFF000000));
+    EQUAL(preview(0xC000, 0xFF), 0);
+    EQUAL(preview(0xDFFF, 0xFE), 0xFF000000);
+    EQUAL(load_bare(210, 1, 0), 0);
+    CHECK(previewed(0xC000, 0x01, 0) && zero_page_at_6000(0));
+}
+
+/* N20, L18: refusals of a preview in their order, 1 2 7 8; each is the write's, and all that is lent stays. */
+static void test_refused_previews(void) {
+    const uint8_t *lent_image = image, *lent_arena = arena;
+    EQUAL(load(19, 1, 32768, 128), 0);
+    image[152] |= 0x78; /* an update counter of 15 */
+    keep();
+    EQUAL(namco163_preview(lent_image, 306, lent_arena, 0, 0, 0), NAMCO163_IMAGE_LENGTH);
+    EQUAL(namco163_preview(lent_image, 308, lent_arena, ARENA, 0x8000, 0xE1), NAMCO163_IMAGE_LENGTH);
+    EQUAL(namco163_preview(lent_image, 307, lent_arena, 0, 0, 0), NAMCO163_OUT_OF_RANGE);
+    EQUAL(preview_of(lent_image, lent_arena, 0x8000, 0xE1), NAMCO163_OUT_OF_RANGE);
+    CHECK(kept());
+    EQUAL(load(19, 1, 32768, 128), 0);
+    keep();
+    EQUAL(namco163_preview(lent_image, 307, lent_arena, ARENA - 1, 0, 0), NAMCO163_ARENA_LENGTH);
+    EQUAL(namco163_preview(lent_image, 307, lent_arena, ARENA + 1, 0x8000, 0xE1), NAMCO163_ARENA_LENGTH);
+    EQUAL(preview_of(lent_image, lent_arena, 0x0000, 0x00), NAMCO163_ADDRESS);
+    EQUAL(preview_of(lent_image, lent_arena, 0x47FF, 0xFF), NAMCO163_ADDRESS);
+    EQUAL(preview_of(lent_image, lent_arena, 0x4800, 0xFF), 0);
+    CHECK(kept());
+}
+
 /* N20: refusals of a load, in their order: 1 4 5 6 7. */
 static void test_refused_loads(void) {
     keep();
@@ -478,8 +536,10 @@ int main(void) {
     test_loaded_boards();
     test_settled();
     test_settling();
+    test_preview();
     test_refused_loads();
     test_refused_calls();
+    test_refused_previews();
     if (failures) printf("%d of %d checks of the C calls failed\n", failures, checks);
     else printf("%d checks of the C calls\n", checks);
     return failures ? EXIT_FAILURE : EXIT_SUCCESS;
