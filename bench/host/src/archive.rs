@@ -1,10 +1,10 @@
 // SPDX-License-Identifier: MIT OR Apache-2.0
-//! Four of the archive's five calls, all but the reset, on one cartridge.
+//! Five of the archive's six calls, all but the reset, on one cartridge.
 
-use crate::functions::{namco163_load, namco163_read, namco163_run, namco163_write};
+use crate::functions::{namco163_load, namco163_preview, namco163_read, namco163_run, namco163_write};
 
 pub struct Archive {
-    image: [u8; 307],
+    pub image: [u8; 307],
     arena: Vec<u8>,
     pub samples: Vec<u8>,
 }
@@ -42,6 +42,10 @@ impl Archive {
 
     pub fn write(&mut self, addr: u16, val: u8) -> u64 {
         unsafe { namco163_write(self.image.as_mut_ptr().cast(), self.image.len(), self.arena.as_mut_ptr().cast(), self.arena.len(), addr, val) }
+    }
+
+    pub fn preview(&self, addr: u16, val: u8) -> u64 {
+        unsafe { namco163_preview(self.image.as_ptr().cast(), self.image.len(), self.arena.as_ptr().cast(), self.arena.len(), addr, val) }
     }
 
     pub fn run(&mut self, clocks: u64) -> u64 {

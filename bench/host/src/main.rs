@@ -123,6 +123,42 @@ fn others(three_runs: f64) {
     line("load", time(|| ours.load()), time(Reference::load));
 }
 
+/// Writes of each kind: one that stores, three of registers alone, and three that map.
+const PREVIEWED: [(&str, u16, u8); 7] = [
+    ("6000=12, a store", 0x6000, 0x12),
+    ("4800=5A, a sound byte", 0x4800, 0x5A),
+    ("5000=FE, the counter", 0x5000, 0xFE),
+    ("F800=80, the address", 0xF800, 0x80),
+    ("8000=E1, a CHR slot", 0x8000, 0xE1),
+    ("C000=E0, a nametable", 0xC000, 0xE0),
+    ("E000=01, a bank", 0xE000, 0x01),
+];
+
+/// L18: a preview beside the write that it previews, each on the same image, which is lent anew for each call on both sides; the words are
+/// compared first. The goal is that a preview costs no more.
+fn previews() {
+    let (mut ours, _) = sides(8);
+    let image = ours.image;
+    println!("\nA preview and its write, by the archive; a ratio is the preview's time divided by the write's, and at most 1 is the goal");
+    println!("{:>22} {:>8} {:>8} {:>8}", "", "preview", "write", "ratio");
+    let mut most = 0.0f64;
+    for (name, addr, val) in PREVIEWED {
+        let preview = |ours: &mut Archive| {
+            ours.image = black_box(image);
+            ours.preview(black_box(addr), black_box(val))
+        };
+        let write = |ours: &mut Archive| {
+            ours.image = black_box(image);
+            ours.write(black_box(addr), black_box(val))
+        };
+        assert_eq!(preview(&mut ours), write(&mut ours), "{name}");
+        let (p, w) = (time(|| preview(&mut ours)), time(|| write(&mut ours)));
+        most = most.max(p / w);
+        println!("{name:>22} {p:>8.0} {w:>8.0} {:>8.2}", p / w);
+    }
+    println!("The largest ratio is {most:.2}: a preview costs {} its write", if most <= 1.0 { "no more than" } else { "MORE than" });
+}
+
 fn main() {
     [1, 8].into_iter().for_each(compare);
     println!("Answers and samples agree. Times are ns a call; a ratio is the Rust's time divided by the archive's.");
@@ -131,4 +167,5 @@ fn main() {
     runs(1);
     let three_runs = runs(8);
     others(three_runs);
+    previews();
 }
