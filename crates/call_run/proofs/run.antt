@@ -1,2 +1,4 @@
 -- The laws of specs/Run.antt, and the proofs of src/run.rt.
+pub mod Idle
 pub mod Laws
+pub mod Loop

@@ -2,6 +2,8 @@
 use crate::clock::run_counter;
 use board_state::State;
 use board_state::in_range;
+use call_idle::ended;
+use call_idle::piece;
 use sound::audio::Audio;
 use sound_clock::run::SoundRan;
 ghost use mathlib.Core.Path.{_≡_};
@@ -13,6 +15,8 @@ ghost use Rattle.sound_clock.specs.Run.{soundRun, samplesOf};
 ghost use Rattle.call_refusals.specs.Refusals.{firstOf};
 ghost use Rattle.sound.specs.Range.{audioOk};
 ghost use Rattle.board_state.specs.State.{inRange};
+ghost use Rattle.idle_runs.specs.Idle.{Least};
+ghost use Rattle.call_run.specs.Clock.{stateClock};
 ghost use Rattle.call_run.specs.Run.{made, runChecks, runGave, ranOf};
 
 // N10: the most clocks of a run.
@@ -67,7 +71,8 @@ fn run_sound(audio: Audio, n: u32, samples: &mut [f32]) -> SoundRan
     sound_clock::run::run(audio, n, samples)
 }
 
-fn accepted_run(s: State, n: u32, samples: &mut [f32]) -> Ran
+// So many clocks at once.
+fn run_piece(s: State, n: u32, samples: &mut [f32]) -> Ran
     requires { ⌜ firstOf (runChecks s n (length (now samples))) ≡ 0 ⌝ }
     ensures { λ r. ⌜ (r ≡ ranOf (runGave s n (now (samples .entry))))
         × (now (samples .exit) ≡ runGave s n (now (samples .entry)) .samples) ⌝ }
@@ -99,6 +104,49 @@ fn accepted_run(s: State, n: u32, samples: &mut [f32]) -> Ran
         rise: counted.rise,
         state: after,
     }
+}
+
+// A run, and how many of its clocks were made (C24); no answer has that.
+struct Counted {
+    ran: Ran,
+    clocks: u32,
+}
+
+// Makes clocks until none is left or the next one alters nothing.
+fn run_counted(s: State, n: u32, samples: &mut [f32]) -> Counted
+    requires { ⌜ firstOf (runChecks s n (length (now samples))) ≡ 0 ⌝ }
+    ensures { λ r. ⌜ (r .ran ≡ ranOf (runGave s n (now (samples .entry))))
+        × (now (samples .exit) ≡ runGave s n (now (samples .entry)) .samples) ⌝ }
+    ensures { λ r. ⌜ Least stateClock n (r .clocks) s ⌝ }
+{
+    let mut ran = Ran {
+        refusal: 0,
+        made: 0,
+        rise: 0,
+        state: s,
+    };
+    let mut clocks: u32 = 0;
+    loop {
+        let at = ran.state;
+        if ended(at, n - clocks) {
+            return Counted {
+                ran: ran,
+                clocks: clocks,
+            };
+        }
+        let more = piece(at, n - clocks);
+        ran = run_piece(at, more, samples);
+        clocks += more;
+    }
+}
+
+fn accepted_run(s: State, n: u32, samples: &mut [f32]) -> Ran
+    requires { ⌜ firstOf (runChecks s n (length (now samples))) ≡ 0 ⌝ }
+    ensures { λ r. ⌜ (r ≡ ranOf (runGave s n (now (samples .entry))))
+        × (now (samples .exit) ≡ runGave s n (now (samples .entry)) .samples) ⌝ }
+{
+    let counted = run_counted(s, n, samples);
+    counted.ran
 }
 
 // Of a state that is known to be in range.

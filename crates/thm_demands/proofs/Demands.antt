@@ -3,9 +3,9 @@
 -- `requires`; only functions beside them have one, as the variants `.._known` for a state that is known to be in range.
 use Prim.Native.Nat.{ℕ, _+_, _^_, _≤_, _<_}
 use mathlib.Core.Path.{_≡_, refl}
-use mathlib.Core.Bool.{false, not, _&&_}
+use mathlib.Core.Bool.{true, false, not, _&&_}
 use mathlib.Core.List.{List, [], _∷_, _++_}
-use mathlib.Core.Logic.{_⊎_}
+use mathlib.Core.Logic.{_⊎_, _↔_}
 use lib.Ieee.{Float}
 use lib.ListN.{length}
 use Rattle.cut.specs.Always.{AllTyped, NeverRefused}
@@ -21,6 +21,8 @@ use Rattle.board_banking.specs.Banking.{updateBanks}
 use Rattle.board_state.specs.declared.State.{State}
 use Rattle.board_state.specs.State.{Known}
 use Rattle.call_refusals.specs.Refusals.{firstOf, kindCheck, loadChecks}
+use Rattle.call_idle.specs.Idle.{idle, counted}
+use Rattle.call_run.specs.Clock.{stateClock}
 use Rattle.call_run.specs.Run.{runChecks, runGave}
 use Rattle.call_run.proofs.run.Laws.{refused-run}
 use Rattle.image_write.specs.Image.{imageOf}
@@ -40,6 +42,8 @@ use Rattle.thm_machine.proofs.Demand3 as Machine
 use Rattle.thm_range.specs.Fit.{Fit}
 use Rattle.thm_range.proofs.Lists.{always-fit, never-2-or-7}
 use Rattle.thm_range.proofs.Refused.{other-refused}
+use Rattle.idle_runs.specs.Idle.{Still, Least}
+use Rattle.thm_idle.proofs.Idle.{idle-is-still, counted-is-least}
 use Rattle.thm_settled.specs.Settled.{StaysSettled, StaysDetecting, StaysFixed, SettledFromLoad, TypeOfLoad}
 use Rattle.thm_settled.proofs.Settled.{stays-settled, stays-detecting, stays-fixed, settled-from-load, type-of-load}
 use Rattle.thm_work_ram.specs.Rust.{rustUpdateBanks}
@@ -169,6 +173,14 @@ pub counter-rises : (first rest : List (Call Float Other)) (h : Held) (n more : 
     → allClocks (observed board (first ++ rest) h .trace) ≡ allClocks (observed board first h .trace) + more
     → FirstRise board counterOf lineOf first rest h n more
 counter-rises = Machine.first-rise
+
+-- ---- C24, C25: a state is idle just where its next clock alters nothing; a run makes the fewest clocks that are enough
+
+pub idle-exactly : (s : State) → (idle s ≡ true) ↔ Still stateClock s
+idle-exactly = idle-is-still
+
+pub run-makes-the-fewest : (n : ℕ) (s : State) → s .chip .regs .«irq_counter» < 2 ^ 16 → Least stateClock n (counted n s) s
+run-makes-the-fewest = counted-is-least
 
 -- ---- H3: what is written is read back, and what is read is written back
 

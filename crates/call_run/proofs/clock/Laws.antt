@@ -22,11 +22,11 @@ pub top-stops : (c : ℕ) → c ≡ 0xFFFF → moves c ≡ false
 unfolding moves
 top-stops c e = rw e
 
-quiet : (c : ℕ) → moves c ≡ false → risesFrom c ≡ false
+pub quiet : (c : ℕ) → moves c ≡ false → risesFrom c ≡ false
 unfolding risesFrom
 quiet c h = rw h
 
-stays : (r : Regs) → moves (r .«irq_counter») ≡ false → clockCounter r ≡ r
+pub stays : (r : Regs) → moves (r .«irq_counter») ≡ false → clockCounter r ≡ r
 unfolding clockCounter risesFrom nextCounter
 stays r h = rw h
 

@@ -1,4 +1,4 @@
--- `accepted_run` meets its contract: n single clocks in closed form, by the board.
+-- `run_piece` meets its contract: n single clocks in closed form, by the board.
 use mathlib.Core.Path.{_≡_, sym, _∙_}
 use mathlib.Core.Bool.{true}
 use lib.ListN.{length}
@@ -8,8 +8,8 @@ use Rattle.board_chip.specs.Namco163.{is163}
 use Rattle.board_state.proofs.Range.{sound-ok}
 use Rattle.call_run.specs.Run.{runGave}
 use Rattle.call_run.proofs.run.Laws.{sounds-state, sounds-samples, silent-state, silent-samples, rise-is, run-good}
-use Rattle.call_run.proofs.run.accepted_run.Statement.{statement}
-use Rattle.call_run.proofs.run.accepted_run.Tie as tie
+use Rattle.call_run.proofs.run.run_piece.Statement.{statement}
+use Rattle.call_run.proofs.run.run_piece.Tie as tie
 
 returns : tie.Need-returns
 unfolding runGave
@@ -51,8 +51,8 @@ returns-2 c =
       rw (start .pre, sounds-samples (a .n) (a .s) p) (r .1),
     )
 
-pub accepted-run-spec : {M : Type 1} → statement M
-accepted-run-spec =
+pub run-piece-spec : {M : Type 1} → statement M
+run-piece-spec =
     tie.close
     (tie.spec
     (λ c κs. search needs)  -- run-counter-requires

@@ -1,0 +1,2 @@
+-- Runs of each kind, with the clocks that they make.
+pub mod Cases
