@@ -15,6 +15,10 @@ impl Archive {
     }
 
     pub fn load(&mut self) -> u64 {
+        self.load_as(19, 0)
+    }
+
+    pub fn load_as(&mut self, mapper: u64, submapper: u8) -> u64 {
         let (image, arena) = (&mut self.image, &mut self.arena);
         unsafe {
             namco163_load(
@@ -22,8 +26,8 @@ impl Archive {
                 image.len(),
                 arena.as_mut_ptr().cast(),
                 arena.len(),
-                19,
-                0,
+                mapper,
+                submapper,
                 0,
                 1,
                 crate::PRG_ROM as u64,

@@ -123,6 +123,43 @@ fn others(three_runs: f64) {
     line("load", time(|| ours.load()), time(Reference::load));
 }
 
+/// C25: boards whose sound does not step, with the counter that their runs begin with.
+const IDLE: [(&str, u16, u8, &[(u16, u8)], u16); 2] = [
+    ("a 340, counter stopped", 210, 2, &[], 0),
+    ("a 163, sound off, counter from 8000", 19, 0, &[(0xE000, 0x40), (0x5000, 0x00), (0x5800, 0x80)], 0x8000),
+];
+
+/// C25: runs that end early or count alone, each on the same image, which is lent anew for each call. A run of no clock is a run's fixed
+/// part; what the others cost beyond it is shown.
+fn idles() {
+    println!("\nRuns without sound, and what the archive's cost beyond a run of 0 clocks");
+    println!("{:>36} {:>8} {:>8} {:>8} {:>8}", "", "clocks", "archive", "Rust", "beyond");
+    for (name, mapper, submapper, writes, counter) in IDLE {
+        let (mut ours, mut theirs) = (Archive::new(), Reference::load_as(mapper, submapper));
+        assert_eq!(ours.load_as(mapper.into(), submapper), 0);
+        for &(addr, val) in writes {
+            ours.write(addr, val);
+            theirs.write(addr, val);
+        }
+        let image = ours.image;
+        let mut fixed = 0.0;
+        for clocks in [0, 114, 29_781] {
+            let mut run = || {
+                ours.image = black_box(image);
+                ours.run(black_box(clocks))
+            };
+            let mut stepped = || {
+                theirs.restart(black_box(counter));
+                theirs.run_by_calls(black_box(clocks))
+            };
+            assert_eq!(run(), stepped(), "{name}, a run of {clocks}");
+            let (a, r) = (time(run), time(stepped));
+            fixed = if clocks == 0 { a } else { fixed };
+            println!("{name:>36} {clocks:>8} {a:>8.0} {r:>8.0} {:>8.0}", a - fixed);
+        }
+    }
+}
+
 /// Writes of each kind: one that stores, three of registers alone, and three that map.
 const PREVIEWED: [(&str, u16, u8); 7] = [
     ("6000=12, a store", 0x6000, 0x12),
@@ -167,5 +204,6 @@ fn main() {
     runs(1);
     let three_runs = runs(8);
     others(three_runs);
+    idles();
     previews();
 }

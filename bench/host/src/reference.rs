@@ -3,7 +3,7 @@
 
 use tetanes::{
     cart::{Cart, GameInfo, NesHeader},
-    m019_namco163::Namco163,
+    m019_namco163::{Board, Namco163},
     mapper::Map,
     memory::{Memory, MemoryLayout},
 };
@@ -16,6 +16,10 @@ pub struct Reference {
 
 impl Reference {
     pub fn load() -> Self {
+        Self::load_as(19, 0)
+    }
+
+    pub fn load_as(mapper_num: u16, submapper_num: u8) -> Self {
         let mut layout = MemoryLayout::default();
         layout.prg_rom = crate::PRG_ROM;
         layout.prg_ram = crate::PRG_RAM;
@@ -23,8 +27,8 @@ impl Reference {
         layout.chr = crate::CHR;
         layout.ciram = crate::CIRAM;
         let mut cart = Cart {
-            header: NesHeader { mapper_num: 19, submapper_num: 0, flags: 0 },
-            game_info: Some(GameInfo { mapper_num: 19, submapper_num: 0 }),
+            header: NesHeader { mapper_num, submapper_num, flags: 0 },
+            game_info: Some(GameInfo { mapper_num, submapper_num }),
             memory: Memory::new(layout),
         };
         let Ok(chip) = Namco163::load(&mut cart);
@@ -40,6 +44,11 @@ impl Reference {
     pub fn write(&mut self, addr: u16, val: u8) {
         self.memory.prg_write(addr, val);
         self.chip.write_register(&mut self.memory, addr, val);
+    }
+
+    /// Puts the counter back, so that each run counts from the same.
+    pub fn restart(&mut self, counter: u16) {
+        self.chip.regs.irq_counter = counter;
     }
 
     #[inline(never)]
@@ -61,10 +70,11 @@ impl Reference {
     #[inline(always)]
     fn run(&mut self, clocks: u64, step: impl Fn(&mut Self)) -> u64 {
         let (mut made, mut rise) = (0, 0);
+        let sounds = self.chip.board == Board::Namco163 && !self.chip.audio.disabled;
         for clock in 1..=clocks {
             let before = self.chip.regs.irq_counter;
             step(self);
-            if self.chip.audio.update_counter == 0 && !self.chip.audio.disabled {
+            if sounds && self.chip.audio.update_counter == 0 {
                 self.samples[made] = self.chip.output();
                 made += 1;
             }
