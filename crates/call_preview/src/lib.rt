@@ -19,7 +19,7 @@ pub struct Previewed {
     pub changed: Changed,
 }
 
-fn refused_preview(s: State, q: u8) -> Previewed
+pub fn refused_preview(s: State, q: u8) -> Previewed
     ensures { λ r. ⌜ r ≡ answerOf (refusedWrite s q) ⌝ }
 {
     let refused = refused_write(s, q);

@@ -9,7 +9,7 @@ use mathlib.Core.Logic.{_⊎_, _↔_}
 use lib.Ieee.{Float}
 use lib.ListN.{length}
 use Rattle.cut.specs.Always.{AllTyped, NeverRefused}
-use Rattle.cut.specs.Calls.{Call, refused, answered, start, outline, allClocks}
+use Rattle.cut.specs.Calls.{Call, other, refused, answered, start, outline, allClocks}
 use Rattle.cut.specs.Demand3.{observed, FirstRise}
 use Rattle.cut.specs.Machine.{machine}
 use Rattle.memory.specs.declared.Memory.{Memory}
@@ -44,6 +44,15 @@ use Rattle.thm_range.proofs.Lists.{always-fit, never-2-or-7}
 use Rattle.thm_range.proofs.Refused.{other-refused}
 use Rattle.idle_runs.specs.Idle.{Still, Least}
 use Rattle.thm_idle.proofs.Idle.{idle-is-still, counted-is-least}
+use Rattle.call_blocks.specs.Blocks.{emptied}
+use Rattle.handed.specs.Handed as Blocks
+use Rattle.thm_blocks.specs.Calls.{HeldBlocks, BlockCall, base, NumberTyped}
+use Rattle.thm_blocks.specs.Board.{blockBoard}
+use Rattle.thm_blocks.specs.Paper.{blockPaper}
+use Rattle.thm_blocks.specs.Cause.{word, accepted, Cause}
+use Rattle.thm_blocks.specs.Handed.{after as afterAll, Typed, HandsOut, Since, Spared}
+use Rattle.thm_blocks.proofs.Demand3.{block-as-machine, block-cut-blind}
+use Rattle.thm_blocks.proofs.Handed.{fresh as withDirectory, handed-out-from-load, spared, cause-drops}
 use Rattle.thm_settled.specs.Settled.{StaysSettled, StaysDetecting, StaysFixed, SettledFromLoad, TypeOfLoad}
 use Rattle.thm_settled.proofs.Settled.{stays-settled, stays-detecting, stays-fixed, settled-from-load, type-of-load}
 use Rattle.thm_work_ram.specs.Rust.{rustUpdateBanks}
@@ -181,6 +190,32 @@ idle-exactly = idle-is-still
 
 pub run-makes-the-fewest : (n : ℕ) (s : State) → s .chip .regs .«irq_counter» < 2 ^ 16 → Least stateClock n (counted n s) s
 run-makes-the-fewest = counted-is-least
+
+-- ---- K8, K9: a block that is handed out covers the bytes that it was registered with, and none goes but for a cause that is named
+
+pub blocks-handed-out : (l : Loaded) (calls : List (Call Float BlockCall)) → Blocks.AllTyped NumberTyped calls → (a n k : ℕ)
+    → HandsOut (afterAll calls (withDirectory l)) a n k → Since calls (withDirectory l) a n k
+blocks-handed-out = handed-out-from-load
+
+pub blocks-spared : (calls : List (Call Float BlockCall)) (h : HeldBlocks) → Blocks.AllTyped NumberTyped calls → Typed h → (a n k : ℕ)
+    → HandsOut h a n k → Spared calls h a n → HandsOut (afterAll calls h) a n k
+blocks-spared = spared
+
+pub blocks-dropped : (b : Other) (h : HeldBlocks) → Typed h → (a n k : ℕ) → HandsOut h a n k → accepted (base b) h ≡ true → Cause b h a n
+    → word a (afterAll (other (base b) ∷ []) h) ≡ 0
+blocks-dropped = cause-drops
+
+-- K7: demand 3 of lists with a directory, its places compared too
+
+pub demand-3-blocks : (l : Loaded) (calls : List (Call Float BlockCall))
+    → observed blockBoard calls (withDirectory l) ≡ machine blockPaper calls (start (record { held = zeroed l; places = emptied }))
+demand-3-blocks = block-as-machine
+
+pub demand-3-blocks-cutting : (calls others : List (Call Float BlockCall)) (h : HeldBlocks)
+    → outline (observed blockBoard calls h .trace) ≡ outline (observed blockBoard others h .trace)
+    → (observed blockBoard calls h .trace ≡ observed blockBoard others h .trace)
+    × (observed blockBoard calls h .state ≡ observed blockBoard others h .state)
+demand-3-blocks-cutting = block-cut-blind
 
 -- ---- H3: what is written is read back, and what is read is written back
 

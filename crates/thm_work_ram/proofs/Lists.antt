@@ -182,7 +182,7 @@ shown-zero : (arena : List ℕ) → ZeroPage arena → (p : Page) (addr : ℕ) �
 shown-zero arena z p addr e = rw e (z (0 + addr % 1024) (omega arith))
 
 -- at 6000 and above the board serves nothing
-none-served : (n : Namco163) (addr : ℕ) → 0x6000 ≤ addr → served n addr ≡ Nothing
+pub none-served : (n : Namco163) (addr : ℕ) → 0x6000 ≤ addr → served n addr ≡ Nothing
 unfolding served
 none-served n addr lo =
     rw (le-ltb addr 0x4800 (omega arith), le-ltb addr 0x5000 (omega arith), le-ltb addr 0x5800 (omega arith), le-ltb addr 0x6000 lo)

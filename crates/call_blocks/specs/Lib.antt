@@ -1,0 +1,2 @@
+-- The calls with a directory.
+pub mod Blocks

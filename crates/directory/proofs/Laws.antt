@@ -1,0 +1,10 @@
+pub mod Bits
+pub mod Pages
+pub mod Marks
+pub mod Places
+pub mod Sound
+pub mod Drop
+pub mod Refused
+pub mod Registered
+pub mod Dropped
+pub mod Found
