@@ -32,7 +32,7 @@ use Rattle.host.specs.Host.{onImage, stateIn}
 
 -- ---- the state of an accepted image
 
-state-read : (img : List ℕ) → readImage img .refusal ≡ 0 → readImage img .state ≡ stateIn img
+pub state-read : (img : List ℕ) → readImage img .refusal ≡ 0 → readImage img .state ≡ stateIn img
 state-read img e = let h = accepted-in-range img e in ap (λ r. r .state) (accepted img (h .0) (h .1))
 
 pub known-in : (img : List ℕ) → readImage img .refusal ≡ 0 → Known (stateIn img)
@@ -40,23 +40,31 @@ known-in img e = subst Known (state-read img e) (read-known img e)
 
 -- ---- refused by it, or on with it
 
+-- an image that is refused: its number is the call's
+pub image-refuses : (img : List ℕ) (own : List Check) → (readImage img .refusal ≡ 0 → ⊥)
+    → readImage img .refusal ≡ firstOf (onImage img own)
+unfolding readImage
+image-refuses img own h =
+    let refusal : ReadImage → ℕ = λ r. r .refusal in
+    let n : readImage img .refusal ≡ firstOf (readChecks img) = number-is (readChecks img) refusedRead _ refusal refl (λ q. refl) in
+    n ∙ sym (first-done (readChecks img) own (λ e. h (n ∙ e)))
+
+-- an image that is accepted: the call's own checks are left
+pub image-passes : (img : List ℕ) (own : List Check) → readImage img .refusal ≡ 0 → firstOf (onImage img own) ≡ firstOf own
+unfolding firstOf
+image-passes img own e = let h = accepted-in-range img e in rw (eq-eqb (length img) imageBytes (h .0), h .1)
+
 module _ (img : List ℕ) (own : List Check) (lent : List ℕ) (g : Gives) where
   -- an image that is refused: the call answers its number
   stopped : (readImage img .refusal ≡ 0 → ⊥) → unaltered img lent (readImage img .refusal)
       ≡ unlessRefused (onImage img own) (unaltered img lent) g
-  unfolding readImage
-  stopped h =
-      let refusal : ReadImage → ℕ = λ r. r .refusal in
-      let n : readImage img .refusal ≡ firstOf (readChecks img) = number-is (readChecks img) refusedRead _ refusal refl (λ q. refl) in
-      called (onImage img own) img lent g g _ (n ∙ sym (first-done (readChecks img) own (λ e. h (n ∙ e)))) refl .refused h
+  stopped h = called (onImage img own) img lent g g _ (image-refuses img own h) refl .refused h
 
   -- an image that is accepted: the call goes on with its state
   onward : readImage img .refusal ≡ 0
       → unlessRefused (stateCheck (stateIn img) ∷ own) (unaltered img lent) g ≡ unlessRefused (onImage img own) (unaltered img lent) g
   unfolding firstOf
-  onward e =
-      let h = accepted-in-range img e in
-      rw (eq-eqb (length img) imageBytes (h .0), h .1, known-passes (stateIn img) (known-in img e))
+  onward e = rw (image-passes img own e, known-passes (stateIn img) (known-in img e))
 
 -- a call that reads an image to r, with its own checks and what it gives on a state
 pub record OnImage (img lent : List ℕ) (own : State → List Check) (g : State → Gives) (r : ReadImage) : Type 0 where

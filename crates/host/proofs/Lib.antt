@@ -1,4 +1,6 @@
--- Refused says when each call is refused, Words what an answer's bits hold. Laws are what the proofs of src/lib.rt rest on.
+-- Refused says when each call is refused, Words what an answer's bits hold. Laws are what the proofs of src/lib.rt rest on, WithDirectory
+-- what those of src/blocks.rt do, and that a find answers what a lookup does.
 pub mod Laws
+pub mod WithDirectory
 pub mod Refused
 pub mod Words

@@ -1,4 +1,7 @@
-// The six calls of the C host (H4). Each answers 64 bits, with its refusal number in the low 8, 0 for accepted (H6).
+// The calls of the C host (H4): the six without a directory of blocks here, the six with one in blocks.rt. Each answers 64 bits, with its
+// refusal number in the low 8, 0 for accepted (H6).
+mod blocks; // blocks.rt: register, lookup, find, and load, write and stored with a directory
+
 use call_load::load;
 use host_preview::preview_on;
 use host_state::read_on;
