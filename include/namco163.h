@@ -13,11 +13,15 @@
  *   3. copies the cartridge's ROM bytes (and a saved PRG-RAM) into the arena itself, at the places that namco163_arena_of gives;
  *   4. calls namco163_write and namco163_read for each access of the CPU from 4800 on, and namco163_run for the clocks in between.
  *
+ * A host that translates code into blocks may also lend a directory of them: see "The directory of blocks" below.
+ *
  * Each call answers 64 bits: in bits 0..7 a refusal number, 0 for accepted, and what it found in the others (see the accessors below).
- * Where a call is refused the others are 0, and image, arena and samples are as they were. Any numbers, lengths and bytes may be passed.
+ * Where a call is refused the others are 0, and image, arena, samples and directory are as they were. Any numbers, lengths and bytes may be
+ * passed.
  *
  * What the host owes:
- *   - each pointer is to as many bytes as the length behind it says, and is not null (also where the length is 0);
+ *   - each pointer is to as many bytes (of a directory: places of 64 bits) as the length behind it says, and is not null (also where the
+ *     length is 0);
  *   - the blocks passed to one call do not overlap;
  *   - the thread's floating-point environment is C's default: rounding to nearest, exceptions masked. Under FE_DOWNWARD the bits of a
  *     sample may be others, and with FE_INEXACT unmasked a run traps. No other call rounds.
@@ -37,7 +41,7 @@ extern "C" {
 
 /* The version of this header and of the archive that belongs to it. */
 #define NAMCO163_VERSION_MAJOR 0
-#define NAMCO163_VERSION_MINOR 6
+#define NAMCO163_VERSION_MINOR 7
 #define NAMCO163_VERSION_PATCH 0
 #define NAMCO163_TEXT_OF(x) #x
 #define NAMCO163_TEXT(x) NAMCO163_TEXT_OF(x)
@@ -62,21 +66,28 @@ extern "C" {
 #define NAMCO163_PRG_PAGES 64u
 #define NAMCO163_CHR_PAGES 16u
 
-/* Why a call was refused, in the order in which it is checked: the first that holds is the answer. */
+#define NAMCO163_PLACES 256u /* places of a directory of blocks */
+
+/* Why a call was refused, in the order in which it is checked: the first that holds is the answer. `write`, `load` stand for
+ * namco163_write_blocks and namco163_load_blocks too. */
 enum namco163_refusals {
     NAMCO163_ACCEPTED = 0,
-    NAMCO163_IMAGE_LENGTH = 1,   /* every call: the image's length is not 307 */
-    NAMCO163_OUT_OF_RANGE = 2,   /* read, write, preview, run, reset: the image holds a field that no state has */
+    NAMCO163_IMAGE_LENGTH = 1,   /* every call with an image: its length is not 307 */
+    NAMCO163_OUT_OF_RANGE = 2,   /* read, write, preview, run, reset, stored: the image holds a field that no state has; every call with a
+                                  * directory but find: it holds a start twice or a block that cannot be registered, or has not 256 places
+                                  * (of namco163_load_blocks this last alone) */
     NAMCO163_RESET_KIND = 3,     /* reset: the kind is neither 0 nor 1 */
     NAMCO163_MAPPER = 4,         /* load: the mapper is neither 19 nor 210 */
     NAMCO163_SIZE = 5,           /* load: a size is above its limit */
     NAMCO163_NO_BATTERY = 6,     /* load: mapper 19 with a battery reserve of 0 bytes */
     NAMCO163_ARENA_LENGTH = 7,   /* load, read, write, preview: the arena's length is not that of the sizes */
-    NAMCO163_ADDRESS = 8,        /* read, write, preview: the CPU address is below 4800 */
+    NAMCO163_ADDRESS = 8,        /* read, write, preview, register, lookup: the CPU address is below 4800 */
     NAMCO163_FILL_LENGTH = 9,    /* no C call: a fill is longer than its region */
     NAMCO163_CLOCKS = 10,        /* run: more than 29,781 clocks */
     NAMCO163_SAMPLES_LENGTH = 11, /* run: there is no room for the samples that it makes; whole groups of 4 bytes count */
-    NAMCO163_BATTERY_UNUSED = 12 /* no C call: battery sync or restore without a used battery */
+    NAMCO163_BATTERY_UNUSED = 12, /* no C call: battery sync or restore without a used battery */
+    NAMCO163_BLOCK = 13,         /* register: an address of the block is outside 6000..FFFF, or its length is outside 1..4,096 */
+    NAMCO163_DIRECTORY_FULL = 14 /* register: all 256 places are held, and none by this start */
 };
 
 /* Kinds of a reset. */
@@ -128,6 +139,59 @@ uint64_t namco163_run(uint8_t *image, size_t image_len, uint8_t *samples, size_t
  * Answers the refusal number alone: 0, or 1, 2, 3. */
 uint64_t namco163_reset(uint8_t *image, size_t image_len, uint64_t kind);
 
+/* ---- The directory of blocks
+ *
+ * A recompiler keeps for each block of code that it has translated where the block begins. The directory holds 256 of them at most, and
+ * frees the place of each whose bytes may have become others:
+ *
+ *   uint64_t directory[NAMCO163_PLACES];       owned by the host, lent as `directory, NAMCO163_PLACES`; all 0 is the empty one
+ *
+ * A block has a CPU start, a length of 1..4,096 bytes and a 32-bit number that is the host's own; it lies in 6000..FFFF whole. Blocks may
+ * overlap. A place is 0 where it is free, else start (16 bits), length (16) and number (32), most significant first: a host may read them,
+ * and free all by zeros (memset), and leaves their writing to the calls.
+ *
+ * What drops blocks:
+ *   - namco163_write_blocks: those over a CPU page whose page table entry changes, and those over a CPU page that shows the arena page
+ *     into which a byte is stored, also where the byte was the same before. PRG-RAM that is shorter than 8 KiB shows more than once in
+ *     6000..7FFF, so a store at one address can drop blocks at others;
+ *   - namco163_stored: those over a CPU page that shows the arena page of the byte;
+ *   - namco163_load_blocks: all.
+ * No other call drops a block, and none goes for another reason; a registering at a held start replaces.
+ *
+ * A directory is out of date, and a block in it may be over other bytes than it was translated from, where the host
+ *   - writes by namco163_write or loads by namco163_load, which do not see it;
+ *   - stores into the arena itself (ROM bytes behind a load, what the PPU writes) without namco163_stored for that byte;
+ *   - goes on with another image or arena, as from a save state: then it clears the directory with zeros. */
+
+/* Registers a block. Where the start is held already, length and number become the new ones; else it takes the lowest free place.
+ * Answers the refusal number alone: 0, or 2, 8, 13, 14. */
+uint64_t namco163_register(uint64_t *directory, size_t places, uint16_t start, uint64_t length, uint32_t number);
+
+/* The block that is held at a start; an address in a block's middle finds none. Answers length and number (namco163_block_length,
+ * namco163_block_number), or 0 for none, or refusal 2, 8. It tests the whole directory each time, for refusal 2. */
+uint64_t namco163_lookup(const uint64_t *directory, size_t places, uint16_t start);
+
+/* The same without the tests, and never refused: the fast way, for every jump of the translated code. Of a directory that calls alone have
+ * written the answer is namco163_lookup's for every start from 4800 on, and 0 below; of any other it is what the first place with that
+ * start holds. */
+uint64_t namco163_find(const uint64_t *directory, size_t places, uint16_t start);
+
+/* A load (namco163_load) that also empties the directory, whatever it held.
+ * Answers the refusal number alone: 0, or 1, 2 (not 256 places), 4, 5, 6, 7. */
+uint64_t namco163_load_blocks(uint8_t *image, size_t image_len, uint8_t *arena, size_t arena_len, uint64_t *directory, size_t places,
+                              uint64_t mapper, uint8_t submapper, uint8_t flags, uint64_t in_database, uint64_t prg_rom, uint64_t prg_ram,
+                              uint64_t battery, uint64_t chr, uint64_t chr_ram, uint64_t ciram);
+
+/* A CPU write (namco163_write) that also drops blocks. The answer, image and arena are those of namco163_write; refusal 1, 2 (of the image
+ * or of the directory), 7, 8. Which blocks went is not in the answer: their starts find none from now on. */
+uint64_t namco163_write_blocks(uint8_t *image, size_t image_len, uint8_t *arena, size_t arena_len, uint64_t *directory, size_t places,
+                               uint16_t addr, uint8_t val);
+
+/* To be called for a byte that the host has stored into the arena itself: drops the blocks over its arena page, which is all 1,024 bytes
+ * around it, so one call for each page is enough. A byte behind the arena's length drops nothing. Answers the refusal number alone: 0, or
+ * 1, 2 (of the image or of the directory). */
+uint64_t namco163_stored(const uint8_t *image, size_t image_len, uint64_t *directory, size_t places, uint64_t offset);
+
 /* ---- Parts of an answer. In a refused answer each is 0, but for the refusal. */
 
 /* Any call: 0 for accepted, else one of namco163_refusals. */
@@ -136,7 +200,7 @@ static inline unsigned namco163_refusal(uint64_t answer) { return (unsigned)(ans
 /* A read: the byte. */
 static inline uint8_t namco163_byte(uint64_t answer) { return (uint8_t)(answer >> 8 & 0xFF); }
 
-/* A write or a preview: bit k is set if CHR entry k (PPU addresses 400 * k on) changed. */
+/* A write (with a directory or without) or a preview: bit k is set if CHR entry k (PPU addresses 400 * k on) changed. */
 static inline uint16_t namco163_chr_mask(uint64_t answer) { return (uint16_t)(answer >> 8 & 0xFFFF); }
 
 /* A write or a preview: bit k is set if PRG entry k (CPU addresses 400 * k on) changed. Bits 0..23, the addresses below 6000, are never
@@ -149,13 +213,21 @@ static inline uint32_t namco163_samples(uint64_t answer) { return (uint32_t)(ans
 /* A run: the clock of this run, from 1, on which the IRQ line rose, or 0. A run has at most one. */
 static inline uint32_t namco163_rise(uint64_t answer) { return (uint32_t)(answer >> 32); }
 
+/* A lookup or a find: the length of the block, 1..4,096, or 0 for none. */
+static inline uint32_t namco163_block_length(uint64_t answer) { return (uint32_t)(answer >> 8 & 0xFFFFFF); }
+
+/* A lookup or a find: the number that the block was registered with, where its length is not 0. */
+static inline uint32_t namco163_block_number(uint64_t answer) { return (uint32_t)(answer >> 32); }
+
 /* What a refusal number means, in words. */
 static inline const char *namco163_refusal_text(unsigned refusal) {
     static const char *const texts[] = {
-        "accepted", "the image is not 307 bytes long", "the image holds a field out of range", "the reset kind is neither 0 nor 1",
+        "accepted", "the image is not 307 bytes long", "the image holds a field out of range, or the directory is unfit",
+        "the reset kind is neither 0 nor 1",
         "the mapper is neither 19 nor 210", "a size is above its limit", "mapper 19 needs a battery reserve of 1 byte or more",
         "the arena's length is not that of the sizes", "the CPU address is below $4800", "the fill is longer than its region",
         "the run is longer than 29781 clocks", "there is no room for the run's samples", "no battery is in use",
+        "an address of the block is outside $6000..$FFFF, or its length outside 1..4096", "all 256 places of the directory are held",
     };
     return refusal < sizeof texts / sizeof texts[0] ? texts[refusal] : "no refusal has this number";
 }

@@ -1,5 +1,5 @@
 /* SPDX-License-Identifier: MIT OR Apache-2.0 */
-/* The six calls and the header's helpers, from C99 and C++11: answers, refusals in their order, and what a refused call leaves as it
+/* The twelve calls and the header's helpers, from C99 and C++11: answers, refusals in their order, and what a refused call leaves as it
  * was. */
 #include <stdio.h>
 #include <stdlib.h>
@@ -11,6 +11,7 @@ enum { ARENA = 53248, BARE = 45056, SAMPLES = 4 * NAMCO163_MOST_SAMPLES + 3 };
 
 static uint8_t image[NAMCO163_IMAGE_SIZE + 1], arena[ARENA + 1], samples[SAMPLES];
 static uint8_t image_before[sizeof image], arena_before[sizeof arena], samples_before[sizeof samples];
+static uint64_t directory[NAMCO163_PLACES + 1], directory_before[NAMCO163_PLACES + 1];
 static size_t lent = ARENA; /* how much of the arena reads and writes get: as much as the last load */
 static int checks, failures;
 
@@ -58,12 +59,13 @@ static void keep(void) {
     memcpy(image_before, image, sizeof image);
     memcpy(arena_before, arena, sizeof arena);
     memcpy(samples_before, samples, sizeof samples);
+    memcpy(directory_before, directory, sizeof directory);
 }
 
 /* Whether nothing that was lent has changed since `keep`. */
 static int kept(void) {
     return !memcmp(image_before, image, sizeof image) && !memcmp(arena_before, arena, sizeof arena) &&
-           !memcmp(samples_before, samples, sizeof samples);
+           !memcmp(samples_before, samples, sizeof samples) && !memcmp(directory_before, directory, sizeof directory);
 }
 
 static void test_sizes(void) {
@@ -90,7 +92,8 @@ static void test_sizes(void) {
     EQUAL(NAMCO163_MOST_SAMPLES, 1986);
     EQUAL(namco163_most_samples(NAMCO163_CLOCK_LIMIT), NAMCO163_MOST_SAMPLES);
     CHECK(!strcmp(namco163_refusal_text(0), "accepted") && !strcmp(namco163_refusal_text(12), "no battery is in use"));
-    CHECK(!strcmp(namco163_refusal_text(13), "no refusal has this number"));
+    CHECK(!strcmp(namco163_refusal_text(NAMCO163_DIRECTORY_FULL), "all 256 places of the directory are held"));
+    CHECK(!strcmp(namco163_refusal_text(15), "no refusal has this number"));
     CHECK(!strcmp(namco163_refusal_text(NAMCO163_CLOCKS), "the run is longer than 29781 clocks"));
 }
 
@@ -206,17 +209,20 @@ static void test_reset(void) {
     EQUAL(image[23], 0);
 }
 
-/* Sets PRG entries from `first` on to consecutive pages with the writable flag, as a lent image may have them. */
-static void lend_prg(unsigned first, unsigned page, unsigned count) {
-    unsigned k, b;
-    for (k = 0; k < count; k++) {
-        unsigned entry = (page + k) * 2 + 1, at = 1544 + 11 * (first + k);
-        for (b = 0; b < 11; b++) {
-            uint8_t mask = (uint8_t)(0x80 >> ((at + b) % 8));
-            if (entry >> (10 - b) & 1) image[(at + b) / 8] |= mask;
-            else image[(at + b) / 8] &= (uint8_t)~mask;
-        }
+/* Sets entry k of both tables, PRG before CHR, as a lent image may have it. */
+static void lend_entry(unsigned k, unsigned page, unsigned writable) {
+    unsigned entry = page * 2 + writable, at = 1544 + 11 * k, b;
+    for (b = 0; b < 11; b++) {
+        uint8_t mask = (uint8_t)(0x80 >> ((at + b) % 8));
+        if (entry >> (10 - b) & 1) image[(at + b) / 8] |= mask;
+        else image[(at + b) / 8] &= (uint8_t)~mask;
     }
+}
+
+/* Sets PRG entries from `first` on to consecutive pages with the writable flag. */
+static void lend_prg(unsigned first, unsigned page, unsigned count) {
+    unsigned k;
+    for (k = 0; k < count; k++) lend_entry(first + k, page + k, 1);
 }
 
 /* Images that no list of calls from a load makes (R10): stores by the table as it was, at E000, 8000 and 4800 (L7); a rise while the line
@@ -459,6 +465,310 @@ static void test_refused_previews(void) {
     CHECK(kept());
 }
 
+/* ---- The directory of blocks */
+
+static uint64_t load_blocks(uint64_t mapper, uint8_t submapper, uint64_t known, uint64_t prg_rom, uint64_t prg_ram) {
+    lent = namco163_arena_length(prg_rom, prg_ram, 128, 8192, 2048);
+    return namco163_load_blocks(image, NAMCO163_IMAGE_SIZE, arena, lent, directory, NAMCO163_PLACES, mapper, submapper, 0, known, prg_rom,
+                                prg_ram, 128, 8192, 0, 2048);
+}
+static uint64_t load_p_blocks(void) { return load_blocks(19, 0, 1, 32768, 8192); }
+static uint64_t add(unsigned start, uint64_t length, uint32_t number) {
+    return namco163_register(directory, NAMCO163_PLACES, (uint16_t)start, length, number);
+}
+static uint64_t lookup(unsigned start) { return namco163_lookup(directory, NAMCO163_PLACES, (uint16_t)start); }
+static uint64_t find(unsigned start) { return namco163_find(directory, NAMCO163_PLACES, (uint16_t)start); }
+static uint64_t write_blocks(unsigned addr, unsigned val) {
+    return namco163_write_blocks(image, NAMCO163_IMAGE_SIZE, arena, lent, directory, NAMCO163_PLACES, (uint16_t)addr, (uint8_t)val);
+}
+static uint64_t stored(uint64_t offset) { return namco163_stored(image, NAMCO163_IMAGE_SIZE, directory, NAMCO163_PLACES, offset); }
+
+/* Registers a block of 16 bytes at each start, with its place in the list as its number. */
+static void add_each(const uint16_t *starts, size_t count) {
+    size_t k;
+    for (k = 0; k < count; k++) EQUAL(add(starts[k], 16, (uint32_t)k), 0);
+}
+
+/* Which of the starts are held: bit k is set for starts[k]. A find answers what a lookup does. */
+static uint64_t held(const uint16_t *starts, size_t count) {
+    uint64_t mask = 0;
+    size_t k;
+    for (k = 0; k < count; k++) {
+        uint64_t answer = lookup(starts[k]);
+        EQUAL(find(starts[k]), answer);
+        EQUAL(namco163_refusal(answer), 0);
+        if (namco163_block_length(answer)) mask |= (uint64_t)1 << k;
+    }
+    return mask;
+}
+
+/* How many places are held. */
+static size_t places_held(void) {
+    size_t k, count = 0;
+    for (k = 0; k < NAMCO163_PLACES; k++) count += directory[k] != 0;
+    return count;
+}
+
+/* K1, K3, K4, N8, N13: the edges of a registering, and the words of a lookup. */
+static void test_register(void) {
+    static const struct {
+        unsigned start;
+        uint64_t length;
+        unsigned refusal;
+    } edges[] = {
+        {0x0000, 1, NAMCO163_ADDRESS}, {0x47FF, 1, NAMCO163_ADDRESS}, {0x47FF, 0, NAMCO163_ADDRESS}, {0x4800, 1, NAMCO163_BLOCK},
+        {0x5FFF, 1, NAMCO163_BLOCK}, {0x5FFF, 2, NAMCO163_BLOCK}, {0x6000, 0, NAMCO163_BLOCK}, {0x6000, 1, 0}, {0x6000, 4096, 0},
+        {0x6000, 4097, NAMCO163_BLOCK}, {0x6000, 65537, NAMCO163_BLOCK}, {0x6000, ((uint64_t)1 << 32) + 1, NAMCO163_BLOCK},
+        {0x6000, (uint64_t)-1, NAMCO163_BLOCK}, {0xF000, 4096, 0}, {0xF001, 4096, NAMCO163_BLOCK}, {0xFFFF, 1, 0},
+        {0xFFFF, 2, NAMCO163_BLOCK},
+    };
+    size_t k;
+    EQUAL(NAMCO163_PLACES, 256);
+    for (k = 0; k < sizeof edges / sizeof edges[0]; k++) {
+        memset(directory, 0, sizeof directory);
+        EQUAL(add(edges[k].start, edges[k].length, 7), edges[k].refusal);
+        EQUAL(places_held(), edges[k].refusal == 0);
+    }
+    memset(directory, 0, sizeof directory);
+    EQUAL(add(0x8000, 16, 0xDEADBEEF), 0);
+    EQUAL(lookup(0x8000), 0xDEADBEEF00001000);
+    CHECK(namco163_block_length(lookup(0x8000)) == 16 && namco163_block_number(find(0x8000)) == 0xDEADBEEF);
+    EQUAL(directory[0], 0x80000010DEADBEEF);
+    EQUAL(add(0xFFFF, 1, 0), 0);
+    EQUAL(lookup(0xFFFF), 0x100);
+    EQUAL(directory[1], 0xFFFF000100000000);
+    keep();
+    EQUAL(lookup(0x8001), 0);
+    EQUAL(lookup(0x47FF), NAMCO163_ADDRESS);
+    EQUAL(find(0x47FF), 0);
+    EQUAL(lookup(0x5FFF), 0);
+    CHECK(kept());
+    EQUAL(add(0x8000, 4096, 1), 0);
+    EQUAL(lookup(0x8000), 0x100100000);
+    CHECK(directory[0] == 0x8000100000000001 && places_held() == 2);
+}
+
+/* N13, N14: 256 blocks held; a held start replaces, a new one is refused, and a dropped place is used again. */
+static void test_full_directory(void) {
+    unsigned k;
+    EQUAL(load_p_blocks(), 0);
+    for (k = 0; k < NAMCO163_PLACES; k++) EQUAL(add(0x6000 + 0x40 * k, 1, k), 0);
+    keep();
+    EQUAL(add(0xFFFF, 1, 0), NAMCO163_DIRECTORY_FULL);
+    EQUAL(add(0xFFFF, 0, 0), NAMCO163_BLOCK);
+    EQUAL(add(0x5000, 1, 0), NAMCO163_BLOCK);
+    EQUAL(add(0x47FF, 1, 0), NAMCO163_ADDRESS);
+    CHECK(kept());
+    EQUAL(add(0x9FC0, 2, 9), 0);
+    EQUAL(lookup(0x9FC0), 0x900000200);
+    EQUAL(write_blocks(0xE000, 0x05), 0xFF00000000);
+    EQUAL(places_held(), 128);
+    for (k = 0; k < 128; k++) EQUAL(add(0xF000 + k, 1, k), 0);
+    EQUAL(add(0xFFFF, 1, 0), NAMCO163_DIRECTORY_FULL);
+    CHECK(directory[0] != 0 && directory[NAMCO163_PLACES] == 0);
+}
+
+/* K5: on a fresh P, by an entry or by a store, in a block's first page or in its second. */
+static void test_dropped(void) {
+    static const uint16_t starts[8] = {0x6000, 0x63F8, 0x6400, 0x8000, 0x9FFF, 0xA000, 0xF000, 0xFFFF};
+    static const uint64_t lengths[8] = {16, 16, 1024, 4096, 2, 1, 4096, 1};
+    size_t k;
+    EQUAL(load_p_blocks(), 0);
+    for (k = 0; k < 8; k++) EQUAL(add(starts[k], lengths[k], (uint32_t)k), 0);
+    EQUAL(held(starts, 8), 0xFF);
+    EQUAL(write_blocks(0x67FF, 0x00), 0);
+    EQUAL(held(starts, 8), 0xF9);
+    EQUAL(write_blocks(0x63FF, 0x00), 0);
+    EQUAL(held(starts, 8), 0xF8);
+    EQUAL(write_blocks(0xE000, 0x04), 0);
+    EQUAL(held(starts, 8), 0xF8);
+    EQUAL(write_blocks(0x8000, 0xE1), 0x100);
+    EQUAL(held(starts, 8), 0xF8);
+    EQUAL(write_blocks(0xE000, 0x05), 0xFF00000000);
+    EQUAL(held(starts, 8), 0xE0);
+    EQUAL(write_blocks(0xE800, 0x01), 0xFF0000000000);
+    EQUAL(held(starts, 8), 0xC0);
+    keep();
+    EQUAL(read_at(0x6000), 0);
+    EQUAL(preview(0xE000, 0x02), 0xFF00000000);
+    CHECK(kept());
+}
+
+/* K5: 6400=55 with PRG-RAM of 8, 3, 1 and 0 pages, a block at each page of 6000..7FFF; without any also by a lent image that stores
+ * there. */
+static void test_short_prg_ram(void) {
+    static const uint16_t starts[9] = {0x6000, 0x6400, 0x6800, 0x6C00, 0x7000, 0x7400, 0x7800, 0x7C00, 0x8000};
+    static const struct {
+        uint64_t prg_ram, held;
+    } sizes[4] = {{8192, 0x1FD}, {3072, 0x16D}, {1024, 0x100}, {0, 0x1FF}};
+    unsigned k;
+    for (k = 0; k < 4; k++) {
+        EQUAL(load_blocks(19, 0, 1, 32768, sizes[k].prg_ram), 0);
+        add_each(starts, 9);
+        EQUAL(write_blocks(0x6400, 0x55), 0);
+        EQUAL(held(starts, 9), sizes[k].held);
+    }
+    for (k = 24; k < 32; k++) lend_entry(k, 0, 1);
+    EQUAL(write_blocks(0x6400, 0x55), 0);
+    EQUAL(held(starts, 9), 0x100);
+}
+
+/* K5: what a 175 and a 340 store, a reset, and a board that is detected. */
+static void test_dropped_boards(void) {
+    static const uint16_t starts[2] = {0x6000, 0x8000};
+    EQUAL(load_blocks(210, 1, 0, 32768, 8192), 0);
+    add_each(starts, 2);
+    EQUAL(write_blocks(0x6000, 0x55), 0);
+    EQUAL(held(starts, 2), 3);
+    EQUAL(write_blocks(0xC000, 0x01), 0xFF000000);
+    EQUAL(held(starts, 2), 2);
+    add_each(starts, 2);
+    EQUAL(reset(NAMCO163_HARD), 0);
+    EQUAL(held(starts, 2), 3);
+    EQUAL(namco163_prg_mask(write_blocks(0x8000, 0x00)), 0xFF000000);
+    EQUAL(held(starts, 2), 2);
+    EQUAL(load_blocks(210, 2, 0, 32768, 8192), 0);
+    add_each(starts, 2);
+    EQUAL(write_blocks(0x6000, 0x55), 0);
+    EQUAL(held(starts, 2), 3);
+    EQUAL(load_blocks(19, 0, 0, 32768, 8192), 0);
+    add_each(starts, 2);
+    EQUAL(write_blocks(0xE000, 0x80), 0xFFFF0000);
+    EQUAL(held(starts, 2), 2);
+}
+
+/* K5, R10: stores that no list of calls from a load makes, by lent images. */
+static void test_dropped_lent(void) {
+    static const uint16_t starts[7] = {0x6000, 0x6400, 0x8000, 0xA000, 0xA400, 0xC000, 0xE000};
+    EQUAL(load_p_blocks(), 0);
+    lend_entry(56, 41, 1);
+    add_each(starts, 7);
+    EQUAL(write_blocks(0xE000, 0x02), 0x10000FF00000000);
+    EQUAL(arena[41 * 1024], 0x02);
+    EQUAL(held(starts, 7), 0x3A);
+    EQUAL(load_p_blocks(), 0);
+    lend_entry(18, 41, 1);
+    add_each(starts, 7);
+    EQUAL(write_blocks(0x4800, 0x5A), 0);
+    CHECK(arena[41 * 1024] == 0x5A && image[23] == 0x5A);
+    EQUAL(held(starts, 7), 0x7E);
+    EQUAL(load_p_blocks(), 0);
+    lend_prg(32, 1, 8);
+    add_each(starts, 7);
+    EQUAL(namco163_prg_mask(write_blocks(0x8000, 0x02)), 0xFF00000000);
+    EQUAL(arena[1024], 0x02);
+    EQUAL(held(starts, 7), 0x53);
+}
+
+/* K5: stores of the host's own: ROM that shows at several addresses, CIRAM by a CHR entry, and the reserve, by lent entries; behind the
+ * arena nothing. */
+static void test_stored(void) {
+    static const uint16_t starts[7] = {0x6000, 0x8000, 0x8400, 0xA000, 0xC000, 0xE000, 0xFFF0};
+    EQUAL(load_p_blocks(), 0);
+    add_each(starts, 7);
+    EQUAL(stored(ARENA), 0);
+    EQUAL(stored(((uint64_t)1 << 32) + 1024), 0);
+    EQUAL(stored((uint64_t)-1), 0);
+    EQUAL(stored(ARENA - 1), 0);
+    EQUAL(stored(0), 0);
+    EQUAL(held(starts, 7), 0x7F);
+    EQUAL(stored(1024), 0);
+    EQUAL(held(starts, 7), 0x65);
+    EQUAL(load_blocks(19, 0, 1, 1024, 8192), 0);
+    add_each(starts, 7);
+    EQUAL(stored(1027), 0);
+    EQUAL(held(starts, 7), 0x01);
+    EQUAL(load_p_blocks(), 0);
+    lend_entry(32, 50, 0);
+    lend_entry(64 + 8, 50, 1);
+    lend_entry(40, 49, 0);
+    add_each(starts, 7);
+    arena[namco163_chr_entry(image, 0x2005).offset + 5] = 0x77;
+    EQUAL(stored(namco163_chr_entry(image, 0x2005).offset + 5), 0);
+    EQUAL(held(starts, 7), 0x7D);
+    EQUAL(read_at(0x8005), 0x7700);
+    arena[49 * 1024 + 2] = 0x33;
+    EQUAL(stored(49 * 1024 + 2), 0);
+    EQUAL(held(starts, 7), 0x75);
+    EQUAL(read_at(0xA002), 0x3300);
+}
+
+/* K7: a load reads no place; it zeroes 256 and alters image and arena as without a directory. */
+static void test_load_blocks(void) {
+    EQUAL(load(19, 1, 32768, 128), 0);
+    memset(directory, 0xA5, sizeof directory);
+    keep();
+    memset(image, 0xA5, NAMCO163_IMAGE_SIZE);
+    memset(arena, 0xA5, ARENA);
+    EQUAL(load_p_blocks(), 0);
+    CHECK(!memcmp(image, image_before, sizeof image) && !memcmp(arena, arena_before, sizeof arena));
+    CHECK(places_held() == 0 && directory[NAMCO163_PLACES] == directory_before[0]);
+}
+
+/* N2, K2: every call that reads a directory of so many places refuses it, before its other numbers, and alters nothing. */
+static void check_unfit(size_t places) {
+    keep();
+    EQUAL(namco163_register(directory, places, 0x47FF, 0, 0), NAMCO163_OUT_OF_RANGE);
+    EQUAL(namco163_register(directory, places, 0x6000, 1, 0), NAMCO163_OUT_OF_RANGE);
+    EQUAL(namco163_lookup(directory, places, 0x47FF), NAMCO163_OUT_OF_RANGE);
+    EQUAL(namco163_lookup(directory, places, 0x6000), NAMCO163_OUT_OF_RANGE);
+    EQUAL(namco163_write_blocks(image, 307, arena, 0, directory, places, 0, 0), NAMCO163_OUT_OF_RANGE);
+    EQUAL(namco163_write_blocks(image, 307, arena, lent, directory, places, 0xE000, 0x01), NAMCO163_OUT_OF_RANGE);
+    EQUAL(namco163_write_blocks(image, 306, arena, lent, directory, places, 0xE000, 0x01), NAMCO163_IMAGE_LENGTH);
+    EQUAL(namco163_stored(image, 307, directory, places, 1024), NAMCO163_OUT_OF_RANGE);
+    EQUAL(namco163_stored(image, 306, directory, places, 1024), NAMCO163_IMAGE_LENGTH);
+    CHECK(kept());
+}
+
+/* A start twice with places apart, a number without a start, a block below 6000, beyond FFFF, of length 0 and 4,097; 255 and 257 places. */
+static void test_unfit_directories(void) {
+    static const uint64_t unfit[] = {7, 0x5FFF000100000000, 0xFFFF000200000000, 0x6000000000000007, 0x6000100100000000};
+    size_t k;
+    EQUAL(load_p_blocks(), 0);
+    for (k = 0; k < sizeof unfit / sizeof unfit[0]; k++) {
+        memset(directory, 0, sizeof directory);
+        directory[200] = unfit[k];
+        check_unfit(NAMCO163_PLACES);
+    }
+    memset(directory, 0, sizeof directory);
+    directory[3] = 0x8000001000000007;
+    directory[200] = 0x8000002000000008;
+    check_unfit(NAMCO163_PLACES);
+    EQUAL(find(0x8000), 0x700001000);
+    directory[200] = 0;
+    EQUAL(lookup(0x8000), 0x700001000);
+    check_unfit(NAMCO163_PLACES - 1);
+    check_unfit(NAMCO163_PLACES + 1);
+    check_unfit(0);
+    EQUAL(namco163_find(directory, 3, 0x8000), 0);
+    EQUAL(namco163_find(directory, 4, 0x8000), 0x700001000);
+}
+
+/* N20: refusals with a fit directory in their order: of a load 1 2 4 5 6 7, of a write 1 2 7 8, of stored 1 2. */
+static void test_refused_blocks(void) {
+    EQUAL(load_p_blocks(), 0);
+    EQUAL(add(0x8000, 16, 7), 0);
+    keep();
+    EQUAL(namco163_load_blocks(image, 306, arena, 0, directory, 255, 20, 0, 0, 1, 524289, 0, 0, 0, 0, 0), NAMCO163_IMAGE_LENGTH);
+    EQUAL(namco163_load_blocks(image, 307, arena, 0, directory, 255, 20, 0, 0, 1, 524289, 0, 0, 0, 0, 0), NAMCO163_OUT_OF_RANGE);
+    EQUAL(namco163_load_blocks(image, 307, arena, lent, directory, 257, 19, 0, 0, 1, 32768, 8192, 128, 8192, 0, 0), NAMCO163_OUT_OF_RANGE);
+    EQUAL(namco163_load_blocks(image, 307, arena, 0, directory, 256, 20, 0, 0, 1, 524289, 0, 0, 0, 0, 0), NAMCO163_MAPPER);
+    EQUAL(namco163_load_blocks(image, 307, arena, 0, directory, 256, 19, 0, 0, 1, 524289, 0, 0, 0, 0, 0), NAMCO163_SIZE);
+    EQUAL(namco163_load_blocks(image, 307, arena, 0, directory, 256, 19, 0, 0, 1, 32768, 0, 0, 0, 0, 0), NAMCO163_NO_BATTERY);
+    EQUAL(namco163_load_blocks(image, 307, arena, 0, directory, 256, 19, 0, 0, 1, 32768, 8192, 128, 8192, 0, 2048), NAMCO163_ARENA_LENGTH);
+    EQUAL(namco163_write_blocks(image, 308, arena, 0, directory, 256, 0, 0), NAMCO163_IMAGE_LENGTH);
+    EQUAL(namco163_write_blocks(image, 307, arena, ARENA - 1, directory, 256, 0, 0), NAMCO163_ARENA_LENGTH);
+    EQUAL(namco163_write_blocks(image, 307, arena, ARENA + 1, directory, 256, 0xE000, 1), NAMCO163_ARENA_LENGTH);
+    EQUAL(write_blocks(0x47FF, 0), NAMCO163_ADDRESS);
+    EQUAL(namco163_stored(image, 308, directory, 256, 1024), NAMCO163_IMAGE_LENGTH);
+    CHECK(kept());
+    image[152] |= 0x78; /* an update counter of 15 */
+    keep();
+    EQUAL(namco163_write_blocks(image, 307, arena, 0, directory, 256, 0, 0), NAMCO163_OUT_OF_RANGE);
+    EQUAL(stored(1024), NAMCO163_OUT_OF_RANGE);
+    CHECK(kept());
+}
+
 /* N20: refusals of a load, in their order: 1 4 5 6 7. */
 static void test_refused_loads(void) {
     keep();
@@ -540,6 +850,16 @@ int main(void) {
     test_refused_loads();
     test_refused_calls();
     test_refused_previews();
+    test_register();
+    test_full_directory();
+    test_dropped();
+    test_short_prg_ram();
+    test_dropped_boards();
+    test_dropped_lent();
+    test_stored();
+    test_load_blocks();
+    test_unfit_directories();
+    test_refused_blocks();
     if (failures) printf("%d of %d checks of the C calls failed\n", failures, checks);
     else printf("%d checks of the C calls\n", checks);
     return failures ? EXIT_FAILURE : EXIT_SUCCESS;
