@@ -38,12 +38,13 @@ fn end_line(
     mut p: Player,
     line: &[u8],
     bytes: &mut [u8],
+    directory: &mut [u64],
     arena: &mut [u8],
     out: &mut [u8],
 ) -> Player {
     let len = p.line_len;
     p.line_len = 0;
-    let q = answer(p, line, len, bytes, arena, out);
+    let q = answer(p, line, len, bytes, directory, arena, out);
     if q.out_len < 131_072 {
         return q;
     }
@@ -63,11 +64,12 @@ fn take_line(
     part: &[u8],
     line: &mut [u8],
     bytes: &mut [u8],
+    directory: &mut [u64],
     arena: &mut [u8],
     out: &mut [u8],
 ) -> Player {
     let q = collect(p, part, line);
-    end_line(q, line, bytes, arena, out)
+    end_line(q, line, bytes, directory, arena, out)
 }
 
 fn take(
@@ -75,6 +77,7 @@ fn take(
     chunk: &[u8],
     line: &mut [u8],
     bytes: &mut [u8],
+    directory: &mut [u64],
     arena: &mut [u8],
     out: &mut [u8],
 ) -> Player {
@@ -85,7 +88,7 @@ fn take(
             return collect(p, &chunk[i..], line);
         }
         let next = e + 1;
-        let q = take_line(p, &chunk[i..e], line, bytes, arena, out);
+        let q = take_line(p, &chunk[i..e], line, bytes, directory, arena, out);
         p = q;
         i = next;
     }
@@ -97,6 +100,7 @@ fn finish(
     mut p: Player,
     line: &[u8],
     bytes: &mut [u8],
+    directory: &mut [u64],
     arena: &mut [u8],
     out: &mut [u8],
 ) -> Player {
@@ -104,30 +108,44 @@ fn finish(
     if p.line_len == 0 {
         return p;
     }
-    end_line(p, line, bytes, arena, out)
+    end_line(p, line, bytes, directory, arena, out)
 }
 
 // Reads once, and answers each line that ends.
-fn step(p: Player, line: &mut [u8], bytes: &mut [u8], arena: &mut [u8], out: &mut [u8]) -> Player {
+fn step(
+    p: Player,
+    line: &mut [u8],
+    bytes: &mut [u8],
+    directory: &mut [u64],
+    arena: &mut [u8],
+    out: &mut [u8],
+) -> Player {
     let mut chunk = io::large_buffer();
     let got = libc::read(STDIN_FILENO, &mut chunk);
     let n = io::count(got, &chunk);
     if n == 0 {
-        let last = finish(p, line, bytes, arena, out);
+        let last = finish(p, line, bytes, directory, arena, out);
         return flush(last, out);
     }
-    let next = take(p, &chunk[..n], line, bytes, arena, out);
+    let next = take(p, &chunk[..n], line, bytes, directory, arena, out);
     flush(next, out)
 }
 
 // A proved loop has to end, and nothing says that the input does: so it counts down from a number that no run uses up.
-pub fn play(mut p: Player, line: &mut [u8], bytes: &mut [u8], arena: &mut [u8], out: &mut [u8]) {
+pub fn play(
+    mut p: Player,
+    line: &mut [u8],
+    bytes: &mut [u8],
+    directory: &mut [u64],
+    arena: &mut [u8],
+    out: &mut [u8],
+) {
     let mut turns = u64::MAX;
     while 0 < turns {
         if p.ended {
             return;
         }
-        let q = step(p, line, bytes, arena, out);
+        let q = step(p, line, bytes, directory, arena, out);
         p = q;
         turns -= 1;
     }

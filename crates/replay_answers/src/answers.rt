@@ -42,7 +42,7 @@ pub fn byte(out: &mut [u8], at: usize, refusal: u8, value: u8) -> usize {
     end_line(out, b)
 }
 
-fn spaced(out: &mut [u8], at: usize, n: u64) -> usize {
+pub fn spaced(out: &mut [u8], at: usize, n: u64) -> usize {
     let a = put(out, at, b' ');
     put_decimal(out, a, n)
 }

@@ -44,6 +44,10 @@ pub enum Call {
     RestoreBattery,
     Image,
     Arena,
+    // A block's start, length and number.
+    Register(u16, u64, u32),
+    Lookup(u16),
+    Directory,
     Malformed,
 }
 
@@ -107,6 +111,7 @@ fn at_address(line: &[u8], n: Name) -> Call {
     match n {
         Name::Read => Call::Read(addr),
         Name::Peek => Call::Peek(addr),
+        Name::Lookup => Call::Lookup(addr),
         _ => Call::ChrRead(addr),
     }
 }
@@ -194,6 +199,25 @@ fn reset(line: &[u8]) -> Call {
     Call::Malformed
 }
 
+fn register(line: &[u8]) -> Call {
+    let a = parse_address(word(line, 1));
+    let Address::At(start) = a else {
+        return Call::Malformed;
+    };
+    let bytes = parse_number(word(line, 2));
+    let Number::Value(len) = bytes else {
+        return Call::Malformed;
+    };
+    let n = parse_number(word(line, 3));
+    let Number::Value(number) = n else {
+        return Call::Malformed;
+    };
+    if 0xFFFF_FFFF < number {
+        return Call::Malformed;
+    }
+    Call::Register(start, len, number as u32)
+}
+
 // A call of one word.
 fn alone(n: Name) -> Call {
     match n {
@@ -202,6 +226,7 @@ fn alone(n: Name) -> Call {
         Name::RestoreBattery => Call::RestoreBattery,
         Name::Image => Call::Image,
         Name::Arena => Call::Arena,
+        Name::Directory => Call::Directory,
         _ => Call::Malformed,
     }
 }
@@ -210,9 +235,9 @@ fn alone(n: Name) -> Call {
 fn fits(n: Name, words: usize) -> bool {
     match n {
         Name::Load => words == 10,
-        Name::Read | Name::Peek | Name::ChrRead | Name::Reset => words == 1,
+        Name::Read | Name::Peek | Name::ChrRead | Name::Reset | Name::Lookup => words == 1,
         Name::Write | Name::Preview | Name::ChrWrite | Name::RegionPeek | Name::Run => words == 2,
-        Name::RegionWrite => words == 3,
+        Name::RegionWrite | Name::Register => words == 3,
         Name::Fill => (words == 1) | (words == 2),
         _ => words == 0,
     }
@@ -225,13 +250,14 @@ pub fn parse_call(n: Name, line: &[u8], bytes: &mut [u8]) -> Call {
     }
     match n {
         Name::Load => load(line),
-        Name::Read | Name::Peek | Name::ChrRead => at_address(line, n),
+        Name::Read | Name::Peek | Name::ChrRead | Name::Lookup => at_address(line, n),
         Name::Write | Name::Preview | Name::ChrWrite => to_address(line, n),
         Name::Fill => fill(line, bytes),
         Name::RegionPeek => region_peek(line),
         Name::RegionWrite => region_write(line),
         Name::Run => run(line),
         Name::Reset => reset(line),
+        Name::Register => register(line),
         _ => alone(n),
     }
 }

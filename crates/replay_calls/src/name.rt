@@ -20,6 +20,9 @@ pub enum Name {
     RestoreBattery,
     Image,
     Arena,
+    Register,
+    Lookup,
+    Directory,
     Unknown,
 }
 
@@ -78,6 +81,29 @@ fn cartridge_name(word: &[u8]) -> Name {
     Name::Unknown
 }
 
+// The calls on the directory of translated blocks.
+fn block_name(word: &[u8]) -> Name {
+    if same(word, b"register") {
+        return Name::Register;
+    }
+    if same(word, b"lookup") {
+        return Name::Lookup;
+    }
+    if same(word, b"directory") {
+        return Name::Directory;
+    }
+    Name::Unknown
+}
+
+// The calls that are not on single bytes.
+fn other_name(word: &[u8]) -> Name {
+    let n = cartridge_name(word);
+    match n {
+        Name::Unknown => block_name(word),
+        _ => n,
+    }
+}
+
 pub fn name_of(word: &[u8]) -> Name {
     if same(word, b"run") {
         return Name::Run;
@@ -87,7 +113,7 @@ pub fn name_of(word: &[u8]) -> Name {
     }
     let n = byte_name(word);
     match n {
-        Name::Unknown => cartridge_name(word),
+        Name::Unknown => other_name(word),
         _ => n,
     }
 }
@@ -116,6 +142,13 @@ pub fn put_usage(out: &mut [u8], at: usize, n: Name) -> usize {
         Name::RestoreBattery => put_all(out, at, b"restore-battery alone"),
         Name::Image => put_all(out, at, b"image alone"),
         Name::Arena => put_all(out, at, b"arena alone"),
+        Name::Register => put_all(
+            out,
+            at,
+            b"register ADDR LENGTH NUMBER, up to $FFFF and $FFFFFFFF",
+        ),
+        Name::Lookup => put_all(out, at, b"lookup ADDR, up to $FFFF"),
+        Name::Directory => put_all(out, at, b"directory alone"),
         Name::Unknown => put_all(out, at, b"one of the calls' names"),
     }
 }

@@ -4,7 +4,10 @@ use crate::player::within;
 use board_state::State;
 use call_answers::Altered;
 use call_answers::Peeked;
+use call_blocks::writes as blocks;
 use call_cpu::calls as board;
+use call_load::Loaded;
+use call_preview::Previewed;
 use call_run::run::Ran;
 use image_write::sections::IMAGE_BYTES;
 use image_write::writing::write_image;
@@ -25,10 +28,17 @@ fn arena_len(sizes: MemoryLayout) -> usize {
 }
 
 // A refused load leaves the old cartridge, whose bytes lie in the same array.
-pub fn load(mut p: Player, arena: &mut [u8], out: &mut [u8], cartridge: Cartridge) -> Player {
+pub fn load(
+    mut p: Player,
+    directory: &mut [u64],
+    arena: &mut [u8],
+    out: &mut [u8],
+    cartridge: Cartridge,
+) -> Player {
     let sizes = cartridge.sizes;
     let n = within(arena_len(sizes), arena);
-    let r = call_load::load(
+    let r: Loaded = call_blocks::calls::load(
+        directory,
         &mut arena[..n],
         cartridge.mapper,
         cartridge.submapper,
@@ -61,8 +71,16 @@ fn read(s: State, arena: &[u8], out: &mut [u8], at: usize, addr: u16) -> Answere
     Answered { state, at: next }
 }
 
-fn write(s: State, arena: &mut [u8], out: &mut [u8], at: usize, addr: u16, val: u8) -> Answered {
-    let r = board::cpu_write(s, arena, addr, val);
+fn write(
+    s: State,
+    directory: &mut [u64],
+    arena: &mut [u8],
+    out: &mut [u8],
+    at: usize,
+    addr: u16,
+    val: u8,
+) -> Answered {
+    let r = blocks::cpu_write(directory, s, arena, addr, val);
     let state = r.state;
     let changed = r.changed;
     let next = answers::written(out, at, r.refusal, changed);
@@ -104,10 +122,17 @@ fn restore_battery(s: State, arena: &[u8], out: &mut [u8], at: usize) -> Answere
 }
 
 // The calls that may change the state; `answer` hands it no other.
-fn changing(s: State, call: Call, arena: &mut [u8], out: &mut [u8], at: usize) -> Answered {
+fn changing(
+    s: State,
+    call: Call,
+    directory: &mut [u64],
+    arena: &mut [u8],
+    out: &mut [u8],
+    at: usize,
+) -> Answered {
     match call {
         Call::Read(addr) => read(s, arena, out, at, addr),
-        Call::Write(addr, val) => write(s, arena, out, at, addr, val),
+        Call::Write(addr, val) => write(s, directory, arena, out, at, addr, val),
         Call::Run(n, room) => run(s, out, at, n, room),
         Call::Reset(kind) => reset(s, out, at, kind),
         Call::RestoreBattery => restore_battery(s, arena, out, at),
@@ -120,8 +145,16 @@ fn peek(s: State, arena: &[u8], out: &mut [u8], at: usize, addr: u16) -> usize {
     answers::byte(out, at, r.refusal, r.byte)
 }
 
-fn preview(s: State, arena: &[u8], out: &mut [u8], at: usize, addr: u16, val: u8) -> usize {
-    let r = call_preview::preview(s, arena, addr, val);
+fn preview(
+    s: State,
+    directory: &[u64],
+    arena: &[u8],
+    out: &mut [u8],
+    at: usize,
+    addr: u16,
+    val: u8,
+) -> usize {
+    let r: Previewed = blocks::preview(directory, s, arena, addr, val);
     let changed = r.changed;
     answers::written(out, at, r.refusal, changed)
 }
@@ -131,14 +164,23 @@ fn chr_read(s: State, arena: &[u8], out: &mut [u8], at: usize, addr: u16) -> usi
     answers::byte(out, at, r.refusal, r.byte)
 }
 
-fn chr_write(s: State, arena: &mut [u8], out: &mut [u8], at: usize, addr: u16, val: u8) -> usize {
-    let refusal = call_regions::chr_write(s, arena, addr, val);
+fn chr_write(
+    s: State,
+    directory: &mut [u64],
+    arena: &mut [u8],
+    out: &mut [u8],
+    at: usize,
+    addr: u16,
+    val: u8,
+) -> usize {
+    let refusal = blocks::chr_write(directory, s, arena, addr, val);
     answers::ok(out, at, refusal)
 }
 
 // The first n of the bytes.
 fn fill(
     s: State,
+    directory: &mut [u64],
     arena: &mut [u8],
     out: &mut [u8],
     at: usize,
@@ -147,7 +189,7 @@ fn fill(
     n: usize,
 ) -> usize {
     let named = within(n, bytes);
-    let refusal = call_regions::fill(s, arena, src, &bytes[..named]);
+    let refusal = call_blocks::calls::fill(directory, s, arena, src, &bytes[..named]);
     answers::ok(out, at, refusal)
 }
 
@@ -158,6 +200,7 @@ fn region_peek(s: State, arena: &[u8], out: &mut [u8], at: usize, src: Src, offs
 
 fn region_write(
     s: State,
+    directory: &mut [u64],
     arena: &mut [u8],
     out: &mut [u8],
     at: usize,
@@ -165,7 +208,7 @@ fn region_write(
     offset: u64,
     val: u8,
 ) -> usize {
-    let refusal = call_regions::region_write(s, arena, src, offset, val);
+    let refusal = blocks::region_write(directory, s, arena, src, offset, val);
     answers::ok(out, at, refusal)
 }
 
@@ -174,8 +217,14 @@ fn sram(s: State, out: &mut [u8], at: usize) -> usize {
     answers::pair(out, at, r.refusal, r.start as u64, r.len as u64)
 }
 
-fn sync_battery(s: State, arena: &mut [u8], out: &mut [u8], at: usize) -> usize {
-    let refusal = call_battery::sync_battery(s, arena);
+fn sync_battery(
+    s: State,
+    directory: &mut [u64],
+    arena: &mut [u8],
+    out: &mut [u8],
+    at: usize,
+) -> usize {
+    let refusal = call_blocks::calls::sync_battery(directory, s, arena);
     answers::ok(out, at, refusal)
 }
 
@@ -189,6 +238,7 @@ fn image(s: State, out: &mut [u8], at: usize) -> usize {
 fn keeping(
     s: State,
     call: Call,
+    directory: &mut [u64],
     arena: &mut [u8],
     bytes: &[u8],
     out: &mut [u8],
@@ -196,14 +246,16 @@ fn keeping(
 ) -> usize {
     match call {
         Call::Peek(addr) => peek(s, arena, out, at, addr),
-        Call::Preview(addr, val) => preview(s, arena, out, at, addr, val),
+        Call::Preview(addr, val) => preview(s, directory, arena, out, at, addr, val),
         Call::ChrRead(addr) => chr_read(s, arena, out, at, addr),
-        Call::ChrWrite(addr, val) => chr_write(s, arena, out, at, addr, val),
-        Call::Fill(src, n) => fill(s, arena, out, at, src, bytes, n),
+        Call::ChrWrite(addr, val) => chr_write(s, directory, arena, out, at, addr, val),
+        Call::Fill(src, n) => fill(s, directory, arena, out, at, src, bytes, n),
         Call::RegionPeek(src, offset) => region_peek(s, arena, out, at, src, offset),
-        Call::RegionWrite(src, offset, val) => region_write(s, arena, out, at, src, offset, val),
+        Call::RegionWrite(src, offset, val) => {
+            region_write(s, directory, arena, out, at, src, offset, val)
+        }
         Call::Sram => sram(s, out, at),
-        Call::SyncBattery => sync_battery(s, arena, out, at),
+        Call::SyncBattery => sync_battery(s, directory, arena, out, at),
         Call::Image => image(s, out, at),
         Call::Arena => answers::arena(out, at, arena),
         _ => at,
@@ -211,7 +263,14 @@ fn keeping(
 }
 
 // A call on the loaded cartridge, whose arena is lent.
-pub fn answer(mut p: Player, call: Call, arena: &mut [u8], bytes: &[u8], out: &mut [u8]) -> Player {
+pub fn answer(
+    mut p: Player,
+    call: Call,
+    directory: &mut [u64],
+    arena: &mut [u8],
+    bytes: &[u8],
+    out: &mut [u8],
+) -> Player {
     let s = p.state;
     let at = p.out_len;
     match call {
@@ -220,14 +279,14 @@ pub fn answer(mut p: Player, call: Call, arena: &mut [u8], bytes: &[u8], out: &m
         | Call::Run(_, _)
         | Call::Reset(_)
         | Call::RestoreBattery => {
-            let r = changing(s, call, arena, out, at);
+            let r = changing(s, call, directory, arena, out, at);
             let after = r.state;
             p.state = after;
             p.out_len = r.at;
             p
         }
         _ => {
-            p.out_len = keeping(s, call, arena, bytes, out, at);
+            p.out_len = keeping(s, call, directory, arena, bytes, out, at);
             p
         }
     }

@@ -1,4 +1,5 @@
 // The answer to a line.
+use crate::blocks;
 use crate::calls;
 use crate::player::Player;
 use crate::player::within;
@@ -25,12 +26,27 @@ fn malformed(mut p: Player, out: &mut [u8], n: Name) -> Player {
     p
 }
 
-fn answer_call(p: Player, call: Call, bytes: &[u8], arena: &mut [u8], out: &mut [u8]) -> Player {
+fn answer_call(
+    p: Player,
+    call: Call,
+    bytes: &[u8],
+    directory: &mut [u64],
+    arena: &mut [u8],
+    out: &mut [u8],
+) -> Player {
     if !p.loaded {
         return error(p, out, b"no cartridge is loaded");
     }
     let n = within(p.arena_len, arena);
-    calls::answer(p, call, &mut arena[..n], bytes, out)
+    calls::answer(p, call, directory, &mut arena[..n], bytes, out)
+}
+
+// A log has a directory from its first cartridge on.
+fn answer_blocks(p: Player, call: Call, directory: &mut [u64], out: &mut [u8]) -> Player {
+    if !p.loaded {
+        return error(p, out, b"no cartridge is loaded");
+    }
+    blocks::answer(p, call, directory, out)
 }
 
 // A line that is neither empty nor a comment.
@@ -38,6 +54,7 @@ fn answer_words(
     p: Player,
     line: &[u8],
     bytes: &mut [u8],
+    directory: &mut [u64],
     arena: &mut [u8],
     out: &mut [u8],
 ) -> Player {
@@ -45,8 +62,11 @@ fn answer_words(
     let call = parse_call(n, line, bytes);
     match call {
         Call::Malformed => malformed(p, out, n),
-        Call::Load(cartridge) => calls::load(p, arena, out, cartridge),
-        _ => answer_call(p, call, bytes, arena, out),
+        Call::Load(cartridge) => calls::load(p, directory, arena, out, cartridge),
+        Call::Register(_, _, _) | Call::Lookup(_) | Call::Directory => {
+            answer_blocks(p, call, directory, out)
+        }
+        _ => answer_call(p, call, bytes, directory, arena, out),
     }
 }
 
@@ -56,6 +76,7 @@ pub fn answer(
     line: &[u8],
     len: usize,
     bytes: &mut [u8],
+    directory: &mut [u64],
     arena: &mut [u8],
     out: &mut [u8],
 ) -> Player {
@@ -68,5 +89,5 @@ pub fn answer(
     if line[0] == b'#' {
         return p;
     }
-    answer_words(p, &line[..len], bytes, arena, out)
+    answer_words(p, &line[..len], bytes, directory, arena, out)
 }

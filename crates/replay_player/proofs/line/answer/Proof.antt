@@ -9,7 +9,7 @@ use Rattle.replay_player.proofs.line.answer.Tie as tie
 
 slice-aggregate-answer-words : tie.Need-slice-aggregate-answer-words
 slice-aggregate-answer-words c =
-    let start = c .before .before .before .before .before .before .before .before .before in
+    let read = c .before .before .before .before .before in let start = read .before .before .before .before .before in
     sym (length-take-le (start .args .len) (now (start .args .line)) (omega arith))
 
 pub answer-spec : {M : Type 1} → statement M
@@ -28,4 +28,5 @@ answer-spec =
     (λ c. search needs)  -- same-length-2
     (λ c. search needs)  -- same-length-3
     (λ c. search needs)  -- same-length-4
+    (λ c. search needs)  -- same-length-5
     (λ c. search needs))  -- returns-4
