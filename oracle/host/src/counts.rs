@@ -1,25 +1,33 @@
 // SPDX-License-Identifier: MIT OR Apache-2.0
 //! What was called, how it was answered, and what else was reached.
 
-use oracle::host::HostCall;
+use oracle::host::{BlockCall, HostCall};
 use std::{collections::BTreeMap, fmt};
 
-const KINDS: [&str; 6] = ["load", "read", "write", "preview", "run", "reset"];
+const KINDS: [&str; 12] =
+    ["load", "read", "write", "preview", "run", "reset", "register", "lookup", "find", "load_blocks", "write_blocks", "stored"];
+/// The first kind that is lent a directory.
+const BLOCKS: usize = 6;
 
 /// Refusals that a host can meet.
-const REFUSALS: [usize; 10] = [1, 2, 3, 4, 5, 6, 7, 8, 10, 11];
+const REFUSALS: [usize; 12] = [1, 2, 3, 4, 5, 6, 7, 8, 10, 11, 13, 14];
 
 #[derive(Default)]
 pub struct Counts {
     /// For each kind of call, how often it was accepted and refused.
     kinds: [(u64, u64); KINDS.len()],
-    refusals: [u64; 13],
+    refusals: [u64; 15],
     reached: BTreeMap<&'static str, u64>,
 }
 
 impl Counts {
     pub fn calls(&self) -> u64 {
         self.kinds.iter().map(|(accepted, refused)| accepted + refused).sum()
+    }
+
+    /// Calls that are lent a directory.
+    pub fn block_calls(&self) -> u64 {
+        self.kinds[BLOCKS..].iter().map(|(accepted, refused)| accepted + refused).sum()
     }
 
     pub fn call(&mut self, call: HostCall, word: u64) {
@@ -31,6 +39,22 @@ impl Counts {
             HostCall::Run(_) => 4,
             HostCall::Reset(_) => 5,
         };
+        self.count(kind, word);
+    }
+
+    pub fn call_blocks(&mut self, call: BlockCall, word: u64) {
+        let kind = match call {
+            BlockCall::Register { .. } => 0,
+            BlockCall::Lookup(_) => 1,
+            BlockCall::Find(_) => 2,
+            BlockCall::Load(_) => 3,
+            BlockCall::Write(..) => 4,
+            BlockCall::Stored(_) => 5,
+        };
+        self.count(BLOCKS + kind, word);
+    }
+
+    fn count(&mut self, kind: usize, word: u64) {
         match word as u8 {
             0 => self.kinds[kind].0 += 1,
             number => {

@@ -2,11 +2,13 @@
 //! `host-test`: the C archive against the oracle, which is the unchanged Rust with M5's amendment, call by call.
 
 mod archive;
+mod blocks;
 mod counts;
 mod draw;
 mod functions;
 mod lent;
 mod pair;
+mod places;
 mod previews;
 mod sessions;
 mod states;
@@ -48,7 +50,8 @@ fn main() -> ExitCode {
         println!("host-test: never reached: {}", missing.join(", "));
         return ExitCode::FAILURE;
     }
-    println!("host-test: {} calls of the archive are the Rust's, 0 differences", pair.counts.calls());
+    let (calls, with_directory) = (pair.counts.calls(), pair.counts.block_calls());
+    println!("host-test: {calls} calls of the archive are the Rust's, {with_directory} of them with a directory, 0 differences");
     ExitCode::SUCCESS
 }
 
@@ -77,7 +80,8 @@ fn first_session() -> Session {
     Session::load(&load, load.arena_len()).unwrap_or_else(|_| unreachable!("a small 210 is accepted"))
 }
 
-/// Half of the calls are sessions. Whatever number is wanted, every bit is flipped in one image or more.
+/// Half of the calls are sessions; half as many again are calls with a directory. Whatever number is wanted, every bit is flipped in one
+/// image or more.
 fn play(pair: &mut Pair, wanted: &Wanted) -> Compared<()> {
     let mut rng = Rng::new(wanted.seed);
     let bases = wanted.calls.div_ceil(50_000);
@@ -86,5 +90,6 @@ fn play(pair: &mut Pair, wanted: &Wanted) -> Compared<()> {
     unfit::flip_bits(pair, &mut rng, bases)?;
     unfit::set_fields(pair, &mut rng, bases)?;
     unfit::random_images(pair, &mut rng, wanted.calls / 20)?;
-    unfit::several_wrong(pair, &mut rng, wanted.calls / 8)
+    unfit::several_wrong(pair, &mut rng, wanted.calls / 8)?;
+    blocks::play(pair, &mut rng, wanted.calls / 2)
 }

@@ -1,9 +1,10 @@
 // SPDX-License-Identifier: MIT OR Apache-2.0
 //! The archive and the Rust, side by side: both are lent the same, get the same calls, and are compared after each.
 
-use crate::{archive, counts::Counts, lent::Lent};
+use crate::{archive, counts::Counts, lent::Lent, places::Places};
 use oracle::{
-    host::{Host, HostCall},
+    directory::Directory,
+    host::{BlockCall, Host, HostCall},
     session::Session,
 };
 use std::fmt::Write;
@@ -16,6 +17,7 @@ pub struct Pair {
     image: Lent,
     arena: Lent,
     samples: Lent,
+    directory: Places,
     /// Guard bytes on each side.
     guard: usize,
     pub counts: Counts,
@@ -24,7 +26,8 @@ pub struct Pair {
 impl Pair {
     pub fn new(session: Session, guard: usize) -> Self {
         let [image, arena, samples] = Default::default();
-        let mut pair = Self { host: Host::new(session), image, arena, samples, guard, counts: Counts::default() };
+        let directory = Places::default();
+        let mut pair = Self { host: Host::new(session), image, arena, samples, directory, guard, counts: Counts::default() };
         pair.lend_again();
         pair
     }
@@ -44,6 +47,7 @@ impl Pair {
     fn lend_again(&mut self) {
         self.image = self.block(self.host.image());
         self.arena = self.block(self.host.arena());
+        self.directory = Places::new(&self.host.directory.places, self.guard);
     }
 
     pub fn lend_state(&mut self, session: Session) {
@@ -60,6 +64,11 @@ impl Pair {
     pub fn lend_arena(&mut self, bytes: &[u8]) {
         self.host.lend_arena(bytes);
         self.arena = self.block(bytes);
+    }
+
+    pub fn lend_directory(&mut self, directory: Directory) {
+        self.directory = Places::new(&directory.places, self.guard);
+        self.host.directory = directory;
     }
 
     /// That many bytes for samples, none of them 0, by a pattern that changes from call to call.
@@ -102,6 +111,24 @@ impl Pair {
         ))
     }
 
+    /// The word that both answer to a call with a directory.
+    pub fn call_blocks(&mut self, call: BlockCall) -> Compared<u64> {
+        let (image_before, places_before) = (self.image.bytes().to_vec(), self.directory.places().to_vec());
+        let came = archive::call_blocks(call, &mut self.image, &mut self.arena, &mut self.directory);
+        let expected = self.host.call_blocks(call);
+        self.counts.call_blocks(call, expected);
+        let differences = self.differences(expected, came);
+        if differences.is_empty() {
+            return Ok(expected);
+        }
+        let (number, arena) = (self.counts.calls(), self.arena.bytes().len());
+        Err(format!(
+            "call {number}: {call:X?}\narena of {arena} bytes, image before:\n  {}\nplaces before:\n  {}\n{differences}",
+            hexadecimal(&image_before),
+            held(&places_before)
+        ))
+    }
+
     fn differences(&self, expected: u64, came: u64) -> String {
         let mut text = String::new();
         if expected != came {
@@ -119,8 +146,28 @@ impl Pair {
                 let _ = writeln!(text, "{what}: the archive wrote before or behind it");
             }
         }
+        text + &self.different_places()
+    }
+
+    /// Every call is compared in the directory, too, those that are not lent one by the places that were lent last.
+    fn different_places(&self) -> String {
+        let mut text = String::new();
+        let (expected, came) = (&self.host.directory.places[..], self.directory.places());
+        if expected != came {
+            let _ = writeln!(text, "places of the Rust:\n  {}\nplaces of the archive:\n  {}", held(expected), held(came));
+        }
+        if !self.directory.guards_hold() {
+            let _ = writeln!(text, "directory: the archive wrote before or behind it");
+        }
         text
     }
+}
+
+/// How many places there are, and those that are not 0.
+fn held(places: &[u64]) -> String {
+    let held = places.iter().enumerate().filter(|(_, place)| **place != 0);
+    let shown: Vec<String> = held.map(|(index, place)| format!("{index}: {place:016X}")).collect();
+    format!("{} places, {}", places.len(), shown.join(", "))
 }
 
 /// The first differing bytes, and all bytes of what is short.

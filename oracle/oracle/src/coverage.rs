@@ -4,6 +4,7 @@
 //! Each area names all its classes, so that one that is never reached shows with a count of 0.
 
 mod banking;
+mod blocks;
 mod loads;
 mod memory;
 mod previews;
@@ -11,6 +12,7 @@ mod reads;
 mod runs;
 
 use crate::{
+    directory::Directory,
     layout::{Layout, PAGE, Region},
     player::Player,
     session::Session,
@@ -22,7 +24,7 @@ use tetanes::{
     memory::Page,
 };
 
-/// A state apart from its arena, of which it says only whether the zero page is zeros.
+/// A state with its arena and its directory.
 #[derive(Clone)]
 struct View {
     chip: Namco163,
@@ -30,7 +32,10 @@ struct View {
     used: usize,
     prg: [Page; 64],
     chr: [Page; 16],
+    arena: Vec<u8>,
+    /// Whether the zero page is zeros.
     zeros: bool,
+    directory: Directory,
 }
 
 impl View {
@@ -41,7 +46,9 @@ impl View {
             used: *session.memory.raw_battery_ext_len(),
             prg: *session.memory.prg_pages(),
             chr: *session.memory.chr_pages(),
+            arena: session.arena().into(),
             zeros: session.arena()[..PAGE as usize].iter().all(|byte| *byte == 0),
+            directory: session.directory.clone(),
         }
     }
 
@@ -145,13 +152,14 @@ impl Counter<'_> {
 type Classes = fn() -> Vec<String>;
 type Observe = fn(&Played, &mut Counter);
 
-const AREAS: [(Classes, Observe); 6] = [
+const AREAS: [(Classes, Observe); 7] = [
     (loads::classes, loads::observe),
     (banking::classes, banking::observe),
     (previews::classes, previews::observe),
     (reads::classes, reads::observe),
     (runs::classes, runs::observe),
     (memory::classes, memory::observe),
+    (blocks::classes, blocks::observe),
 ];
 
 impl Coverage {

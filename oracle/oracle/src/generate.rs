@@ -52,25 +52,32 @@ struct Generator {
 impl Generator {
     const SHORTEST: u64 = 20;
     const LONGEST: u64 = 100;
+    /// One session in that many has a directory whose places are all held, and is that much longer.
+    const FULL: u64 = 50;
+    const FULL_CALLS: usize = 300;
 
-    /// A session: a load, marks in its memory, actions, and at the end its image and arena.
+    /// A session: a load, marks in its memory, actions, and at the end its directory, image and arena.
     fn session(&mut self, calls: usize) {
         let begin = self.recorded.calls.len();
-        let length = self.rng.between(Self::SHORTEST, Self::LONGEST) as usize;
+        let full = self.rng.once_in(Self::FULL);
+        let length = self.rng.between(Self::SHORTEST, Self::LONGEST) as usize + if full { Self::FULL_CALLS } else { 0 };
         // A rest too short for a session of its own belongs to this one.
         let rest = calls - begin;
         let end = if rest < length + Self::SHORTEST as usize { calls } else { begin + length };
-        self.body_end = end.saturating_sub(2).max(begin);
+        self.body_end = end.saturating_sub(3).max(begin);
         if begin == 0 {
             self.before_any_load();
         }
         self.load();
+        if full && self.player.session.is_some() {
+            actions::fill_up(self);
+        }
         let favourites = [weighted(&mut self.rng), weighted(&mut self.rng)];
         while self.recorded.calls.len() < self.body_end && self.player.session.is_some() {
             let action = self.action(&favourites);
             action(self);
         }
-        for call in [Call::Image, Call::Arena].into_iter().take(end - self.recorded.calls.len()) {
+        for call in [Call::Directory, Call::Image, Call::Arena].into_iter().take(end - self.recorded.calls.len()) {
             self.record(call);
         }
     }
@@ -107,6 +114,9 @@ impl Generator {
         self.say(Call::Load(refused));
         self.say(Call::Run { clocks: 15, room: 1 });
         self.say(Call::Preview(0x8000, 0xE1));
+        self.say(Call::Register { start: 0x6000, length: 0, number: 1 });
+        self.say(Call::Lookup(0x6000));
+        self.say(Call::Directory);
     }
 
     fn load(&mut self) {

@@ -1,7 +1,13 @@
 // SPDX-License-Identifier: MIT OR Apache-2.0
-//! The host's six calls on an image, an arena and sample bytes, by the Rust: H4 to H8, and N20's rows of a C host.
+//! The host's six calls on an image, an arena and sample bytes, by the Rust: H4 to H8, and N20's rows of a C host; in `blocks` those with a
+//! directory.
+
+mod blocks;
+
+pub use blocks::{BlockCall, block_word};
 
 use crate::{
+    directory::Directory,
     image::{self, LEN},
     layout::Load,
     refusal::Refusal,
@@ -27,12 +33,14 @@ pub struct Host {
     session: Session,
     unread: Option<Refusal>,
     pub samples: Vec<u8>,
+    /// Of the calls that are lent one; the session's own is empty between calls.
+    pub directory: Directory,
 }
 
 impl Host {
     /// Lends a state, in range, with its arena.
     pub fn new(session: Session) -> Self {
-        Self { image: image::encode(&session).into(), session, unread: None, samples: Vec::new() }
+        Self { image: image::encode(&session).into(), session, unread: None, samples: Vec::new(), directory: Directory::default() }
     }
 
     pub fn image(&self) -> &[u8] {
@@ -87,8 +95,12 @@ impl Host {
             HostCall::Run(clocks) => self.run(clocks),
             HostCall::Reset(kind) => self.state()?.reset(kind).map(|()| 0),
         }?;
-        self.image.copy_from_slice(&image::encode(&self.session));
+        self.write_image();
         Ok(word)
+    }
+
+    fn write_image(&mut self) {
+        self.image.copy_from_slice(&image::encode(&self.session));
     }
 
     fn state(&mut self) -> Result<&mut Session, Refusal> {

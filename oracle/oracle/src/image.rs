@@ -2,6 +2,7 @@
 //! The image of 307 bytes, by H1.
 
 use crate::{
+    directory::Directory,
     layout::{Layout, PAGE},
     range::in_range,
     refusal::Refusal,
@@ -144,7 +145,7 @@ pub fn decode(bytes: &[u8]) -> Result<Session, Refusal> {
     let memory = take_memory(&mut unpacker);
     assert_eq!(unpacker.bit, LEN * 8);
     Refusal::OutOfRange.when(!in_range(&chip, &memory))?;
-    Ok(Session { chip, memory })
+    Ok(Session { chip, memory, directory: Directory::default() })
 }
 
 /// Fields in the image's order, which is the order in which they are written here. A mirroring above 4 has no number in the Rust.

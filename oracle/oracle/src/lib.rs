@@ -3,6 +3,7 @@
 
 pub mod compare;
 pub mod coverage;
+pub mod directory;
 pub mod generate;
 pub mod host;
 pub mod image;

@@ -2,6 +2,7 @@
 //! Plays lines of calls and prints their answers.
 
 use crate::{
+    directory::{Block, Directory},
     image,
     layout::Load,
     refusal::Refusal,
@@ -78,11 +79,30 @@ fn answer(session: &mut Session, call: &Call) -> Result<String, Refusal> {
             let arena = session.memory.raw_data();
             Ok(format!("ok {} ${:08X}", arena.len(), adler32(arena)))
         }
+        Call::Register { start, length, number } => session.directory.register(*start, *length, *number).map(ok),
+        Call::Lookup(start) => session.directory.lookup(*start).map(handed_out),
+        Call::Directory => Ok(held(&session.directory)),
     }
 }
 
 fn written(Written { prg, chr }: Written) -> String {
     format!("ok ${:016X} {} {} ${:04X} {} {}", prg.mask, prg.count, prg.lowest, chr.mask, chr.count, chr.lowest)
+}
+
+fn handed_out(block: Option<Block>) -> String {
+    match block {
+        Some(Block { length, number, .. }) => format!("ok {length} ${number:08X}"),
+        None => "ok none".into(),
+    }
+}
+
+/// K1: the blocks that are held, in the places' order.
+fn held(directory: &Directory) -> String {
+    let mut answer = format!("ok {}", directory.blocks().count());
+    for Block { start, length, number } in directory.blocks() {
+        let _ = write!(answer, " ${start:04X} {length} ${number:08X}");
+    }
+    answer
 }
 
 fn run(session: &mut Session, clocks: u64, room: u64) -> Result<String, Refusal> {

@@ -1,5 +1,5 @@
 // SPDX-License-Identifier: MIT OR Apache-2.0
-//! The numbers of refused calls: N1 to N12.
+//! The numbers of refused calls: N1 to N14.
 
 #[derive(Debug, Copy, Clone, PartialEq, Eq, PartialOrd, Ord)]
 pub enum Refusal {
@@ -15,6 +15,8 @@ pub enum Refusal {
     RunLength = 10,
     Room = 11,
     NoBattery = 12,
+    Block = 13,
+    DirectoryFull = 14,
 }
 
 impl Refusal {

@@ -3,15 +3,17 @@
 //! the Rust does is taken as it is, but for one amendment after a remapping (M5, `leave_unmapped`).
 //!
 //! The Rust's `Memory` holds both a part of the state (R8: entries, layout, used length) and the lent arena (`data`). Both can be set
-//! through the accessors, so that a call can be given a state out of range or an arena of another length.
+//! through the accessors, so that a call can be given a state out of range or an arena of another length. The directory of translated
+//! blocks (K) goes from call to call beside them; the calls that take it test it (K2), and an empty one shows in no answer.
 
 use crate::{
+    directory::{CPU_PAGES, Directory},
     image,
     layout::{Layout, Load, PAGE, Region},
     range::in_range,
     refusal::Refusal,
 };
-use std::ops::Range;
+use std::{array, ops::Range};
 use tetanes::{
     cart::{Cart, GameInfo, NesHeader},
     common::ResetKind,
@@ -24,7 +26,8 @@ use tetanes::{
 pub const RUN_LIMIT: u64 = 29_781;
 /// C6: of the longest run.
 pub const MOST_SAMPLES: usize = (14 + RUN_LIMIT as usize) / 15;
-const FIRST_ADDRESS: u16 = 0x4800;
+/// N8: the first address of a CPU call.
+pub const FIRST_ADDRESS: u16 = 0x4800;
 /// M5, L13: the PRG entries of the window at 6000.
 pub const RAM_WINDOW: Range<usize> = 24..32;
 
@@ -32,6 +35,7 @@ pub const RAM_WINDOW: Range<usize> = 24..32;
 pub struct Session {
     pub chip: Namco163,
     pub memory: Memory,
+    pub directory: Directory,
 }
 
 /// L15: the changed entries of one page table.
@@ -66,6 +70,7 @@ pub struct Ran {
 }
 
 impl Session {
+    /// K7: its directory is empty.
     pub fn load(load: &Load, arena_len: u64) -> Result<Self, Refusal> {
         Refusal::Mapper.when(load.mapper != 19 && load.mapper != 210)?;
         let layout = load.layout().ok_or(Refusal::LayoutSize)?;
@@ -81,7 +86,7 @@ impl Session {
     pub fn unamended(load: &Load) -> Self {
         let mut cart = cart(load);
         let Ok(chip) = Namco163::load(&mut cart);
-        Self { chip, memory: cart.memory }
+        Self { chip, memory: cart.memory, directory: Directory::default() }
     }
 
     /// L13, M5: makes both tables anew. It is a step of a load and of a write, and no call; states that are lent are made with it.
@@ -113,7 +118,13 @@ impl Session {
     }
 
     pub fn write(&mut self, addr: u16, val: u8) -> Result<Written, Refusal> {
+        self.directory.refuse()?;
         self.refuse_cpu(addr)?;
+        Ok(self.dropping(val, |session, val| session.cpu_write(addr, val)))
+    }
+
+    /// L7: an accepted write, apart from the directory.
+    fn cpu_write(&mut self, addr: u16, val: u8) -> Written {
         let (prg, chr) = (*self.memory.prg_pages(), *self.memory.chr_pages());
         let board = self.chip.board;
         self.memory.prg_write(addr, val);
@@ -122,7 +133,23 @@ impl Session {
         if (0x8000..=0xF7FF).contains(&addr) || self.chip.board != board {
             leave_unmapped(&mut self.memory);
         }
-        Ok(Written { prg: Changed::between(&prg, self.memory.prg_pages()), chr: Changed::between(&chr, self.memory.chr_pages()) })
+        Written { prg: Changed::between(&prg, self.memory.prg_pages()), chr: Changed::between(&chr, self.memory.chr_pages()) }
+    }
+
+    /// K5: makes a write, and drops the blocks over the CPU pages that it touches. Where it stores is seen without the tables, also if the
+    /// byte stays the same: it is the one byte of the arena that the same write of another value leaves different.
+    fn dropping<T>(&mut self, val: u8, write: impl Fn(&mut Self, u8) -> T) -> T {
+        if self.directory.is_empty() {
+            return write(self, val);
+        }
+        let before = *self.memory.prg_pages();
+        let mut other = self.clone();
+        write(&mut other, !val);
+        let answer = write(self, val);
+        let stored = one_difference(self.arena(), other.arena());
+        let after = *self.memory.prg_pages();
+        self.directory.drop_over(&touched(&before, &after, stored));
+        answer
     }
 
     /// L18: what the write would answer. It is made on a copy.
@@ -136,15 +163,19 @@ impl Session {
     }
 
     pub fn chr_write(&mut self, addr: u16, val: u8) -> Result<(), Refusal> {
+        self.directory.refuse()?;
         self.refuse_arena()?;
-        self.memory.chr_write(addr, val);
+        self.dropping(val, |session, val| session.memory.chr_write(addr, val));
         Ok(())
     }
 
+    /// K6: an accepted one drops every block, also where it has no byte.
     pub fn fill(&mut self, region: Region, bytes: &[u8]) -> Result<(), Refusal> {
+        self.directory.refuse()?;
         self.refuse_arena()?;
         let place = self.memory.region_mut(region.src()).get_mut(..bytes.len());
         place.ok_or(Refusal::FillLength)?.copy_from_slice(bytes);
+        self.directory.empty();
         Ok(())
     }
 
@@ -154,8 +185,9 @@ impl Session {
     }
 
     pub fn region_write(&mut self, region: Region, offset: u64, val: u8) -> Result<(), Refusal> {
+        self.directory.refuse()?;
         self.refuse_arena()?;
-        self.memory.region_write(region.src(), offset as usize, val);
+        self.dropping(val, |session, val| session.memory.region_write(region.src(), offset as usize, val));
         Ok(())
     }
 
@@ -196,9 +228,12 @@ impl Session {
         Ok(())
     }
 
+    /// K6: an accepted one drops every block.
     pub fn sync_battery(&mut self) -> Result<(), Refusal> {
+        self.directory.refuse()?;
         self.refuse_battery()?;
         self.chip.sync_battery(&mut self.memory);
+        self.directory.empty();
         Ok(())
     }
 
@@ -246,6 +281,20 @@ fn leave_unmapped(memory: &mut Memory) {
             *page = Page::UNMAPPED;
         }
     }
+}
+
+/// The place at which two arenas differ, where there is one.
+fn one_difference(left: &[u8], right: &[u8]) -> Option<usize> {
+    let mut places = (0..left.len()).filter(|place| left[*place] != right[*place]);
+    let place = places.next();
+    assert_eq!(places.next(), None, "a write stores one byte at most");
+    place
+}
+
+/// K5: the CPU pages whose entry is another number after the call, or showed the arena page of the byte that the call stored into.
+pub fn touched(before: &[Page; CPU_PAGES], after: &[Page; CPU_PAGES], stored: Option<usize>) -> [bool; CPU_PAGES] {
+    let shows = |page: Page| stored.is_some_and(|byte| entry(page).0 == byte as u64 / PAGE);
+    array::from_fn(|page| before[page] != after[page] || shows(before[page]))
 }
 
 /// What one clock shows (C1, C2).

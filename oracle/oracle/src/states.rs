@@ -2,6 +2,7 @@
 //! Random states in range, most of which no list of calls from a load reaches.
 
 use crate::{
+    directory::Directory,
     image::{BOARDS, MIRRORINGS},
     layout::{Layout, PAGE},
     range::LEVEL_LIMIT,
@@ -17,7 +18,7 @@ use tetanes::{
 /// A state in range and an arena of random bytes.
 pub fn any(rng: &mut Rng) -> Session {
     let layout = layout(rng);
-    let mut session = Session { chip: chip(rng), memory: memory(rng, &layout) };
+    let mut session = Session { chip: chip(rng), memory: memory(rng, &layout), directory: Directory::default() };
     match rng.below(4) {
         // As a write leaves the entries, or nearly.
         0 => session.remap(),

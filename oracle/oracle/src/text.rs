@@ -28,6 +28,9 @@ pub enum Call {
     RestoreBattery,
     Image,
     Arena,
+    Register { start: u16, length: u64, number: u32 },
+    Lookup(u16),
+    Directory,
 }
 
 #[derive(Debug, Clone, PartialEq, Eq)]
@@ -146,7 +149,19 @@ fn arguments(name: &str, words: &mut Words) -> Result<Call, String> {
         "restore-battery" => Call::RestoreBattery,
         "image" => Call::Image,
         "arena" => Call::Arena,
+        "register" => register(words)?,
+        "lookup" => Call::Lookup(words.address()?),
+        "directory" => Call::Directory,
         _ => return Err(format!("there is no call {name}")),
+    })
+}
+
+/// K3: the length is any number; N13 judges it.
+fn register(words: &mut Words) -> Result<Call, String> {
+    Ok(Call::Register {
+        start: words.address()?,
+        length: words.number("the length")?,
+        number: words.up_to("the block's number", 0xFFFF_FFFF)? as u32,
     })
 }
 
@@ -187,6 +202,9 @@ impl fmt::Display for Call {
             Self::RestoreBattery => f.write_str("restore-battery"),
             Self::Image => f.write_str("image"),
             Self::Arena => f.write_str("arena"),
+            Self::Register { start, length, number } => write!(f, "register ${start:04X} {length} ${number:08X}"),
+            Self::Lookup(start) => write!(f, "lookup ${start:04X}"),
+            Self::Directory => f.write_str("directory"),
         }
     }
 }

@@ -1,6 +1,10 @@
 // SPDX-License-Identifier: MIT OR Apache-2.0
 //! What a session does. An action says a few calls that belong together.
 
+mod blocks;
+
+pub use blocks::fill_up;
+
 use super::{Generator, loads};
 use crate::{
     layout::{PAGE, Region},
@@ -35,6 +39,9 @@ pub const ACTIONS: &[(u64, Action)] = &[
     (2, reset),
     (1, look),
     (1, refused),
+    (12, blocks::around),
+    (3, blocks::look_up),
+    (3, blocks::register_any),
 ];
 
 pub fn weighted(rng: &mut Rng) -> Action {

@@ -136,12 +136,13 @@ impl Handy for Session {
     fn whole(&self) -> String {
         let (chip, memory) = (&self.chip, &self.memory);
         format!(
-            "{chip:?} {:?} {memory:?} {:?} {:?} {} {:?}",
+            "{chip:?} {:?} {memory:?} {:?} {:?} {} {:?} {:?}",
             chip.audio.ram.as_ref() as &[u8],
             memory.prg_pages(),
             memory.chr_pages(),
             memory.raw_battery_ext_len(),
-            memory.raw_data()
+            memory.raw_data(),
+            self.directory.places
         )
     }
 }

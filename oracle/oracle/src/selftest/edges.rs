@@ -2,6 +2,7 @@
 //! Results at the edges of the clauses of docs/SCOPE.md, on the Rust: a file for each letter, one for L11, one for L18, and one for M5
 //! without PRG-RAM.
 
+mod blocks;
 mod clock;
 mod host;
 mod load;
@@ -15,7 +16,7 @@ mod sound;
 
 use super::checks::Check;
 
-pub const SECTIONS: [(&str, Check); 10] = [
+pub const SECTIONS: [(&str, Check); 11] = [
     ("R: records", records::check),
     ("M: memory", memory::check),
     ("M5: carts without PRG-RAM", no_ram::check),
@@ -26,4 +27,5 @@ pub const SECTIONS: [(&str, Check); 10] = [
     ("C: clocks, reset, battery", clock::check),
     ("H: host and image", host::check),
     ("N: refused calls", refusals::check),
+    ("B: the directory", blocks::check),
 ];

@@ -13,7 +13,7 @@ use oracle::{
 };
 
 const SEED: u64 = 1;
-const COVERAGE_CALLS: usize = 60_000;
+const COVERAGE_CALLS: usize = 80_000;
 
 /// Every class of calls is reached, counted from the played states.
 pub fn coverage(t: &mut Checks) {
@@ -61,10 +61,14 @@ pub fn recuts(t: &mut Checks) {
         let heard = trace.stretches.iter().any(|stretch| stretch.samples.iter().any(|sample| sample != "$00000000"));
         t.holds("there are samples", heard);
         t.holds("there are previews", lines(&calls).any(|line| line.starts_with(b"preview ")));
+        for word in ["register", "lookup", "directory"] {
+            t.holds(&format!("there is {word}"), lines(&calls).any(|line| line.starts_with(word.as_bytes())));
+        }
         t.holds("there are rises", trace.stretches.iter().any(|stretch| !stretch.rises.is_empty()));
     }
     rises_since_load(t);
     previews_cut(t);
+    blocks_cut(t);
 }
 
 fn first_difference(left: &Trace, right: &Trace) -> Option<String> {
@@ -102,10 +106,22 @@ fn previews_cut(t: &mut Checks) {
     }
 }
 
+/// C13, K7: register, lookup and directory are other calls; runs, however they are cut, hand the directory on.
+fn blocks_cut(t: &mut Checks) {
+    let load = "load 19 0 0 1 32768 8192 128 8192 0 2048";
+    let list = format!("{load}\nrun 20 1\nregister $6000 16 5\nrun 40 3\nlookup $6000\nrun 7 1\ndirectory\nrun 9 1\n").into_bytes();
+    let trace = Trace::of(&list);
+    t.eq("their stretches' clocks", trace.stretches.iter().map(|stretch| stretch.clocks).collect(), vec![0, 20, 40, 7, 9]);
+    t.eq("their answers", trace.others.join(", "), "ok, ok, ok 16 $00000005, ok 1 $6000 16 $00000005".into());
+    for cut in 0..8 {
+        t.eq("recut", first_difference(&trace, &Trace::of(&recut(&list, cut))), None);
+    }
+}
+
 /// A kind of answer: its name, the calls that give it, which word to change and which digit of it, from the end.
 type Kind = (&'static str, fn(&Call, &str) -> bool, usize, usize);
 
-const KINDS: [Kind; 17] = [
+const KINDS: [Kind; 22] = [
     ("a read's byte", |call, answer| matches!(call, Call::Read(_)) && answer.starts_with("ok"), 1, 0),
     ("a write's PRG mask", |call, answer| matches!(call, Call::Write(..)) && answer.contains(" 8 24 "), 1, 7),
     ("a write's PRG count", |call, answer| matches!(call, Call::Write(..)) && answer.contains(" 8 32 "), 2, 0),
@@ -122,6 +138,11 @@ const KINDS: [Kind; 17] = [
     ("the arena's Adler-32", |call, answer| matches!(call, Call::Arena) && answer.starts_with("ok"), 2, 0),
     ("the arena's length", |call, answer| matches!(call, Call::Arena) && answer.starts_with("ok"), 1, 0),
     ("the battery's length", |call, answer| matches!(call, Call::Sram) && answer.starts_with("ok"), 2, 0),
+    ("a lookup's length", |call, answer| matches!(call, Call::Lookup(_)) && answer.contains('$'), 1, 0),
+    ("a lookup's number", |call, answer| matches!(call, Call::Lookup(_)) && answer.contains('$'), 2, 7),
+    ("a directory's count", |call, answer| matches!(call, Call::Directory) && answer.contains('$'), 1, 0),
+    ("a directory's start", |call, answer| matches!(call, Call::Directory) && answer.contains('$'), 2, 3),
+    ("a directory's last number", |call, answer| matches!(call, Call::Directory) && answer.contains('$'), 4, 0),
     ("a refusal", |_, answer| answer.starts_with("refused"), 1, 0),
 ];
 

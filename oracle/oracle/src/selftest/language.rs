@@ -40,6 +40,10 @@ fn numbers(t: &mut Checks) {
         ("fill battery 00fF", Call::Fill(Region::Battery, vec![0x00, 0xFF])),
         ("fill battery", Call::Fill(Region::Battery, vec![])),
         ("fill battery ", Call::Fill(Region::Battery, vec![])),
+        ("register $6000 16 $DEADBEEF", Call::Register { start: 0x6000, length: 16, number: 0xDEAD_BEEF }),
+        ("register 0 18446744073709551615 4294967295", Call::Register { start: 0, length: u64::MAX, number: u32::MAX }),
+        ("lookup $ffff", Call::Lookup(0xFFFF)),
+        ("directory", Call::Directory),
         ("run 18446744073709551615 8192", Call::Run { clocks: u64::MAX, room: 8192 }),
     ] {
         t.eq(line, parse(line.as_bytes()), Line::Call(call));
@@ -49,7 +53,7 @@ fn numbers(t: &mut Checks) {
     }
 }
 
-const MALFORMED: [&str; 36] = [
+const MALFORMED: [&str; 46] = [
     " ",
     "jump",
     "Read $8000",
@@ -84,6 +88,16 @@ const MALFORMED: [&str; 36] = [
     "run 1 8193",
     "reset",
     "reset 1",
+    "Register $6000 1 1",
+    "register",
+    "register $6000 1",
+    "register $10000 1 1",
+    "register $6000 18446744073709551616 1",
+    "register $6000 1 $100000000",
+    "register $6000 1 1 1",
+    "lookup",
+    "lookup 65536",
+    "directory 1",
     "load 19 256 0 1 0 0 128 0 0 0",
     "load 19 0 0 1 0 0 128 0 0",
 ];
@@ -102,7 +116,7 @@ fn malformed(t: &mut Checks) {
 }
 
 /// A short session, with answers in the forms of README.md's table of lines.
-const SESSION: [(&str, &str); 35] = [
+const SESSION: [(&str, &str); 49] = [
     ("sram", NO_CARTRIDGE),
     ("load 20 0 0 1 32768 8192 128 8192 0 2048", "refused 4"),
     ("run 0 0", NO_CARTRIDGE),
@@ -135,6 +149,20 @@ const SESSION: [(&str, &str); 35] = [
     ("run 65536 8192", "refused 10"),
     ("reset soft", "ok"),
     ("reset hard", "ok"),
+    ("directory", "ok 0"),
+    ("register $6000 16 $DEADBEEF", "ok"),
+    ("register 65535 1 0", "ok"),
+    ("register $6001 65537 0", "refused 13"),
+    ("register $47FF 0 0", "refused 8"),
+    ("lookup $6000", "ok 16 $DEADBEEF"),
+    ("lookup $FFFF", "ok 1 $00000000"),
+    ("lookup $6001", "ok none"),
+    ("lookup $47FF", "refused 8"),
+    ("directory", "ok 2 $6000 16 $DEADBEEF $FFFF 1 $00000000"),
+    ("write $63FF $00", "ok $0000000000000000 0 64 $0000 0 16"),
+    ("directory", "ok 1 $FFFF 1 $00000000"),
+    ("fill ciram", "ok"),
+    ("directory", "ok 0"),
     ("sync-battery", "ok"),
     ("restore-battery", "ok"),
     ("arena", "ok 53248 $C1B4021A"),

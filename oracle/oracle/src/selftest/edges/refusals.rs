@@ -81,6 +81,10 @@ const CALLS: &[(&str, Call, &[u8])] = &[
     ("soft reset", |s| refusal(s.reset(0)), &[2]),
     ("sync", |s| refusal(s.sync_battery()), &[2, 7, 12]),
     ("restore", |s| refusal(s.restore_battery()), &[2, 7, 12]),
+    ("register", |s| refusal(s.directory.register(0x47FF, 0, 0)), &[8]),
+    ("register of no byte", |s| refusal(s.directory.register(0x6000, 0, 0)), &[13]),
+    ("register of a byte", |s| refusal(s.directory.register(0x6000, 1, 0)), &[0]),
+    ("lookup", |s| refusal(s.directory.lookup(0x47FF)), &[8]),
     ("image of 306 bytes", |s| refusal(s.image(&mut [0; 306])), &[1]),
     ("image", |s| refusal(s.image(&mut [0; 307])), &[2]),
 ];
