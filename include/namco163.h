@@ -148,7 +148,8 @@ uint64_t namco163_reset(uint8_t *image, size_t image_len, uint64_t kind);
  *
  * A block has a CPU start, a length of 1..4,096 bytes and a 32-bit number that is the host's own; it lies in 6000..FFFF whole. Blocks may
  * overlap. A place is 0 where it is free, else start (16 bits), length (16) and number (32), most significant first: a host may read them,
- * and free all by zeros (memset), and leaves their writing to the calls.
+ * and free all by zeros (memset), and leaves their writing to the calls. In a directory that calls alone have written the blocks are in the
+ * order of their starts and the free places behind them; of one in another order each call tests longer.
  *
  * What drops blocks:
  *   - namco163_write_blocks: those over a CPU page whose page table entry changes, and those over a CPU page that shows the arena page
@@ -163,7 +164,8 @@ uint64_t namco163_reset(uint8_t *image, size_t image_len, uint64_t kind);
  *   - stores into the arena itself (ROM bytes behind a load, what the PPU writes) without namco163_stored for that byte;
  *   - goes on with another image or arena, as from a save state: then it clears the directory with zeros. */
 
-/* Registers a block. Where the start is held already, length and number become the new ones; else it takes the lowest free place.
+/* Registers a block. Where the start is held already, length and number become the new ones, in its place; else it goes where its start
+ * belongs in the order of the places, and the blocks behind it move up by a place.
  * Answers the refusal number alone: 0, or 2, 8, 13, 14. */
 uint64_t namco163_register(uint64_t *directory, size_t places, uint16_t start, uint64_t length, uint32_t number);
 

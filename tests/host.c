@@ -546,13 +546,24 @@ static void test_register(void) {
     EQUAL(add(0x8000, 4096, 1), 0);
     EQUAL(lookup(0x8000), 0x100100000);
     CHECK(directory[0] == 0x8000100000000001 && places_held() == 2);
+    EQUAL(add(0x6000, 1, 2), 0);
+    CHECK(directory[0] == 0x6000000100000002 && directory[1] == 0x8000100000000001 && directory[2] == 0xFFFF000100000000);
+}
+
+/* K3, K5: whether starts ascend from the first place on, and the free places are behind them. */
+static int in_order(void) {
+    size_t k;
+    for (k = 1; k < NAMCO163_PLACES; k++)
+        if (directory[k] != 0 && (directory[k - 1] == 0 || directory[k - 1] >> 48 >= directory[k] >> 48)) return 0;
+    return 1;
 }
 
 /* N13, N14: 256 blocks held; a held start replaces, a new one is refused, and a dropped place is used again. */
 static void test_full_directory(void) {
     unsigned k;
     EQUAL(load_p_blocks(), 0);
-    for (k = 0; k < NAMCO163_PLACES; k++) EQUAL(add(0x6000 + 0x40 * k, 1, k), 0);
+    for (k = NAMCO163_PLACES; k-- > 0;) EQUAL(add(0x6000 + 0x40 * k, 1, k), 0);
+    CHECK(in_order());
     keep();
     EQUAL(add(0xFFFF, 1, 0), NAMCO163_DIRECTORY_FULL);
     EQUAL(add(0xFFFF, 0, 0), NAMCO163_BLOCK);
@@ -563,7 +574,9 @@ static void test_full_directory(void) {
     EQUAL(lookup(0x9FC0), 0x900000200);
     EQUAL(write_blocks(0xE000, 0x05), 0xFF00000000);
     EQUAL(places_held(), 128);
+    CHECK(in_order());
     for (k = 0; k < 128; k++) EQUAL(add(0xF000 + k, 1, k), 0);
+    CHECK(in_order());
     EQUAL(add(0xFFFF, 1, 0), NAMCO163_DIRECTORY_FULL);
     CHECK(directory[0] != 0 && directory[NAMCO163_PLACES] == 0);
 }

@@ -3,6 +3,8 @@ pub mod Pages
 pub mod Marks
 pub mod Places
 pub mod Sound
+pub mod Ordered
+pub mod Put
 pub mod Drop
 pub mod Refused
 pub mod Registered

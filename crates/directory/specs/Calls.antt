@@ -1,5 +1,5 @@
 -- K3, K4: registering and looking up, refused calls too.
-use Prim.Native.Nat.{ℕ, _+_}
+use Prim.Native.Nat.{ℕ, min, max}
 use mathlib.Core.Bool.{Bool, true, false, cond, not, _&&_, _||_}
 use mathlib.Core.List.{List, [], _∷_}
 use lib.Dec.{eqb, ltb}
@@ -14,13 +14,19 @@ registerRefusal d start len =
     cond (not (fit d)) 2
     (cond (ltb start 0x4800) 8 (cond (not (fits start len)) 13 (cond (any (holds start) d || any free d) 0 14)))
 
--- K3: the place that holds the start, or else the lowest free one
-unfoldable pub placeFor : List ℕ → ℕ → ℕ
-placeFor d start = cond (any (holds start) d) (first (holds start) d) (first free d)
+-- K3: a new block is carried from the lowest place on. Each place keeps the block with the lower start, of its own and the carried one, and
+-- the lowest free one takes the last that is carried: starts in order stay in order. Words compare as their starts do
+unfoldable pub put : ℕ → List ℕ → List ℕ
+put w [] = []
+put w (x ∷ d) = cond (free x) (w ∷ d) (min w x ∷ put (max w x) d)
+
+-- K3: a start that is held is replaced in its place
+unfoldable pub withBlock : List ℕ → ℕ → ℕ → List ℕ
+withBlock d start w = cond (any (holds start) d) (set d (first (holds start) d) w) (put w d)
 
 unfoldable pub registered : List ℕ → ℕ → ℕ → ℕ → List ℕ
 registered d start len number =
-    cond (eqb (registerRefusal d start len) 0) (set d (placeFor d start) (wordOf start len number)) d
+    cond (eqb (registerRefusal d start len) 0) (withBlock d start (wordOf start len number)) d
 
 -- the block that is held at a start, or 0
 unfoldable pub wordAt : ℕ → List ℕ → ℕ

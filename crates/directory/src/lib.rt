@@ -1,7 +1,9 @@
 // A directory of translated blocks: 256 places that the host lends.
 pub mod block;
+mod drops;
 pub mod fitness;
 mod marks;
+mod order;
 mod pages;
 mod places;
 
@@ -10,10 +12,13 @@ use crate::block::holds;
 use crate::block::len_of;
 use crate::block::number_of;
 use crate::block::word_of;
+use crate::drops::some_goes;
+use crate::drops::take_out;
 use crate::fitness::fit;
-use crate::pages::kept;
 use crate::places::free_place;
+use crate::places::place_near;
 use crate::places::place_of;
+use crate::places::put;
 ghost use mathlib.Core.Path.{_≡_};
 ghost use mathlib.Core.Bool.{true};
 ghost use Rattle.directory.specs.Fit.{fit};
@@ -51,17 +56,18 @@ pub fn register(d: &mut [u64], start: u16, len: u64, number: u32) -> u8
     }
     let empty = free_place(d);
     if empty < d.len() {
-        d[empty] = word;
+        put(d, word);
         return 0;
     }
     14
 }
 
-// The word of the first place that holds a start, or 0. It tests nothing: of a fit directory it finds what a lookup does (lookup-finds).
+// The word of the first place that holds a start, or 0. It tests nothing: of a fit directory it finds what a lookup does (lookup-finds),
+// and nothing below 6000 (low-none), where a lookup below 4800 is refused.
 pub fn find(d: &[u64], start: u16) -> u64
     ensures { λ r. ⌜ r ≡ wordAt start (now (d .entry)) ⌝ }
 {
-    let mut i: usize = 0;
+    let mut i = place_near(d, start);
     while i < d.len() {
         let w = d[i];
         if holds(start, w) {
@@ -101,14 +107,15 @@ pub fn lookup(d: &[u64], start: u16) -> Found
     }
 }
 
-// Frees the place of each block over a CPU page whose bit is set.
+// Takes out each block over a CPU page whose bit is set.
 pub fn drop_touched(d: &mut [u64], touched: u64)
     requires { ⌜ fit (now d) ≡ true ⌝ }
     ensures { λ r. ⌜ now (d .exit) ≡ dropped touched (now (d .entry)) ⌝ }
 {
-    let mut i: usize = 0;
-    while i < d.len() {
-        d[i] = kept(touched, d[i]);
-        i += 1;
+    if touched == 0 {
+        return;
+    }
+    if some_goes(d, touched) {
+        take_out(d, touched);
     }
 }

@@ -4,13 +4,12 @@ use Prim.Native.Nat.{ℕ}
 use mathlib.Core.Bool.{Bool, true, false, cond, not, _||_}
 use mathlib.Core.List.{List, [], _∷_}
 use lib.Ieee.{Float}
-use lib.ListN.{set}
 use Rattle.cut.specs.Machine.{Clocked, Answered, Paper}
 use Rattle.call_refusals.specs.Refusals.{Check, firstOf, addressCheck}
 use Rattle.call_run.specs.Run.{runChecks}
 use Rattle.directory.specs.Block.{lenOf, numberOf, wordOf, fits, free, holds}
 use Rattle.directory.specs.Fit.{any}
-use Rattle.directory.specs.Calls.{placeFor, wordAt}
+use Rattle.directory.specs.Calls.{withBlock, wordAt}
 use Rattle.directory.specs.Drop.{dropped}
 use Rattle.call_blocks.specs.Blocks.{directoryCheck, withDirectory, emptied, cpuTouched, chrTouched, regionTouched}
 use Rattle.thm_machine.specs.Calls.{Held, Other, cpuRead, cpuPeek, cpuWrite, chrRead, chrWrite, fill, regionPeek, regionWrite, sram}
@@ -80,8 +79,10 @@ blockAnswers (base a) h =
     let r = answers a (h .held) in
     record { answer = base (r .answer); state = record { held = r .state; places = placesAfter a (h .held) (h .places) } }
 blockAnswers (register start len number) h =
-    let d = h .places in
-    record { answer = base done; state = record { held = h .held; places = set d (placeFor d start) (wordOf start len number) } }
+    record {
+      answer = base done;
+      state = record { held = h .held; places = withBlock (h .places) start (wordOf start len number) };
+    }
 blockAnswers (lookup start) h = record { answer = handedOut (wordAt start (h .places)); state = h }
 
 -- C15 to C17: what the plain machine goes by

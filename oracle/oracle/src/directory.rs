@@ -75,13 +75,26 @@ impl Directory {
         Refusal::OutOfRange.when(!self.fit())
     }
 
-    /// K3: a held start is replaced in its place; a new one goes to the lowest free place.
+    /// K3: a held start is replaced in its place. A new one is carried from the lowest place on: where a place has a higher start the two
+    /// change places, and the lowest free one takes what is carried then. So starts in order stay in order.
     pub fn register(&mut self, start: u16, length: u64, number: u32) -> Result<(), Refusal> {
         self.refuse()?;
         Refusal::Address.when(start < FIRST_ADDRESS)?;
         Refusal::Block.when(!registrable(start, length))?;
-        let place = self.place_of(start).or(self.places.iter().position(|place| *place == 0)).ok_or(Refusal::DirectoryFull)?;
-        self.places[place] = Block { start, length: length as u16, number }.place();
+        let mut carried = Block { start, length: length as u16, number };
+        if let Some(place) = self.place_of(start) {
+            self.places[place] = carried.place();
+            return Ok(());
+        }
+        let free = self.places.iter().position(|place| *place == 0).ok_or(Refusal::DirectoryFull)?;
+        for place in 0..free {
+            let here = Block::held(self.places[place]).expect("a place before the lowest free one");
+            if here.start > carried.start {
+                self.places[place] = carried.place();
+                carried = here;
+            }
+        }
+        self.places[free] = carried.place();
         Ok(())
     }
 
@@ -101,10 +114,12 @@ impl Directory {
         self.places.iter().position(|place| Block::held(*place).is_some_and(|block| block.start == start))
     }
 
-    /// K5: frees the places whose block lies over a touched CPU page.
+    /// K5: takes out the places whose block lies over a touched CPU page; as many free ones come behind the others, which keep their order.
     pub fn drop_over(&mut self, touched: &[bool; CPU_PAGES]) {
         let goes = |place: u64| Block::held(place).is_some_and(|block| block.pages().any(|page| touched[page]));
-        self.places.iter_mut().filter(|place| goes(**place)).for_each(|place| *place = 0);
+        let places = self.places.len();
+        self.places.retain(|place| !goes(*place));
+        self.places.resize(places, 0);
     }
 
     /// K6, K7: frees every place.

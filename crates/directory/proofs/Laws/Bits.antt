@@ -8,7 +8,7 @@ use native.Mathlib.Numerals.{one-add}
 use native.Mathlib.Nat.{mod-lt, pow-suc, one-mul, mul-assoc, div-eq-of-lt, lt-of-lt-of-le, lt-of-le-of-lt}
 use borrow.Author.Tests.{eq-eqb, ne-eqb, le-leb, lt-leb}
 use lib.Dec.{eqb, leb}
-use lib.Bits.{bitAnd, bitOr, and-step, or-step, and-shr, or-shr, and-le-l, shifted-even}
+use lib.Bits.{bitAnd, bitOr, and-step, or-step, and-shr, or-shr, or-mod, or-add-and, and-le-l, and-le-r, shifted-even}
 use lib.Pow.{pow-pos, pow-mono, pow-lt, pow-add, shl-shr, shr-shr, shl-exact, shr-lt, split, high, ones-split, ones-lt}
 use Rattle.memory.specs.Page.{hasBit}
 use Rattle.directory.specs.Drop.{someBelow}
@@ -142,3 +142,29 @@ one-shl k h = shl-exact 1 k 64 (omega arith) (omega arith) ∙ one-mul (2 ^ k)
 -- the code's run of ones
 pub ones-shl : (c f : ℕ) → c < 64 → c + f ≤ 64 → ((1 * 2 ^ c) % 2 ^ 64 - 1) * 2 ^ f % 2 ^ 64 ≡ (2 ^ c - 1) * 2 ^ f
 ones-shl c f h k = rw (one-shl c h) (shl-exact c f 64 (ones-lt c) k)
+
+-- ---- an or is no less than its parts
+
+pub or-left : (a b : ℕ) → a ≤ bitOr a b
+or-left a b = omega (arith, or-add-and a b, and-le-r a b)
+
+pub or-right : (a b : ℕ) → b ≤ bitOr a b
+or-right a b = omega (arith, or-add-and a b, and-le-l a b)
+
+-- and ends in zeros only where both do
+pub or-even : (k a b : ℕ) → bitOr a b % 2 ^ k ≡ 0 → (a % 2 ^ k ≡ 0) × (b % 2 ^ k ≡ 0)
+or-even k a b e =
+    let q : bitOr (a % 2 ^ k) (b % 2 ^ k) ≡ 0 = sym (or-mod a b k) ∙ e in
+    (omega (arith, or-left (a % 2 ^ k) (b % 2 ^ k)), omega (arith, or-right (a % 2 ^ k) (b % 2 ^ k)))
+
+-- eight facts as one
+pub eight : (P : ℕ → Type 0) → P 0 → P 1 → P 2 → P 3 → P 4 → P 5 → P 6 → P 7 → (k : ℕ) → k < 8 → P k
+eight P a b c e f g h j zero l = a
+eight P a b c e f g h j (suc zero) l = b
+eight P a b c e f g h j (suc (suc zero)) l = c
+eight P a b c e f g h j (suc (suc (suc zero))) l = e
+eight P a b c e f g h j (suc (suc (suc (suc zero)))) l = f
+eight P a b c e f g h j (suc (suc (suc (suc (suc zero))))) l = g
+eight P a b c e f g h j (suc (suc (suc (suc (suc (suc zero)))))) l = h
+eight P a b c e f g h j (suc (suc (suc (suc (suc (suc (suc zero))))))) l = j
+eight P a b c e f g h j (suc (suc (suc (suc (suc (suc (suc (suc k)))))))) l = absurd (omega arith)

@@ -2,81 +2,104 @@
 use Prim.Native.Nat.{ℕ, zero, suc, _≤_, _<_}
 use mathlib.Core.Path.{_≡_, refl, sym, ap, _∙_}
 use mathlib.Core.Bool.{Bool, true, false, cond, not, _&&_, _||_}
-use mathlib.Core.List.{List, [], _∷_}
+use mathlib.Core.List.{List, [], _∷_, _++_}
 use native.Mathlib.Omega.{arith}
 use native.Mathlib.Decide.{ℕ-discrete}
 use borrow.Author.Tests.{eq-eqb, ne-eqb}
 use lib.Dec.{eqb, ltb}
-use lib.ListN.{length, getD, length-map}
+use lib.ListN.{length, getD}
 use Rattle.directory.specs.declared.Found.{Found}
 use Rattle.directory.specs.Block.{startOf, lenOf, numberOf, fits, free, holds}
 use Rattle.directory.specs.Fit.{any, sound, fit}
 use Rattle.directory.specs.Calls.{wordAt, refusedLookup, foundOf, lookup}
-use Rattle.directory.specs.Drop.{goes, kept, dropped}
-use Rattle.directory.proofs.Laws.Sound.{holds-not-free, holds-start, holds-free, SoundCons}
-use Rattle.directory.proofs.Laws.Sound.{sound-cons, cons-sound, fit-length, fit-sound, sound-fit}
+use Rattle.directory.specs.Drop.{goes, gone, kept, dropped}
+use Rattle.directory.proofs.Laws.Pages.{gone-none}
+use Rattle.directory.proofs.Laws.Sound.{holds-not-free, holds-start, holds-free, any-none, SoundCons}
+use Rattle.directory.proofs.Laws.Sound.{sound-cons, cons-sound, sound-at, fit-length, fit-sound, sound-fit}
 
--- ---- one place: it stays or it is freed
+-- ---- one place: its block goes or stays
 
-data Kept (t w : ℕ) : Type 0 where
-  stays : kept t w ≡ w → (w ≡ 0 → ⊥) → goes t (startOf w) (lenOf w) ≡ false → Kept t w
-  freed : kept t w ≡ 0 → (w ≡ 0 → ⊥) → goes t (startOf w) (lenOf w) ≡ true → Kept t w
-  was-free : w ≡ 0 → Kept t w
+pub gone-free : (t : ℕ) → gone t 0 ≡ false
+unfolding gone
+gone-free t = refl
 
 pub kept-free : (t : ℕ) → kept t 0 ≡ 0
-unfolding kept
+unfolding kept gone
 kept-free t = refl
 
-which : (t w : ℕ) → Kept t w
-unfolding kept
-which t w = by (ℕ-discrete w 0) (goes t (startOf w) (lenOf w)) refl
-  where
-    by : Dec (w ≡ 0) → (g : Bool) → goes t (startOf w) (lenOf w) ≡ g → Kept t w
-    by (yes e) g q = was-free e
-    by (no n) true q = freed (rw (ne-eqb w 0 n, q)) n q
-    by (no n) false q = stays (rw (ne-eqb w 0 n, q)) n q
+-- ---- a free place behind the others
+
+length-more : (d : List ℕ) → length (d ++ (0 ∷ [])) ≡ suc (length d)
+length-more [] = refl
+length-more (w ∷ d) = ap suc (length-more d)
+
+any-more : (a : ℕ) (d : List ℕ) → any (holds a) (d ++ (0 ∷ [])) ≡ any (holds a) d
+unfolding any
+any-more a [] = rw (holds-free a)
+any-more a (w ∷ d) = rw (any-more a d)
+
+sound-more : (d : List ℕ) → sound (d ++ (0 ∷ [])) ≡ sound d
+unfolding sound
+sound-more [] = refl
+sound-more (w ∷ d) = rw (any-more (startOf w) d, sound-more d)
+
+word-more : (a : ℕ) (d : List ℕ) → wordAt a (d ++ (0 ∷ [])) ≡ wordAt a d
+unfolding wordAt
+word-more a [] = rw (holds-free a)
+word-more a (w ∷ d) = rw (word-more a d)
+
+-- ---- all places
 
 pub dropped-length : (t : ℕ) (d : List ℕ) → length (dropped t d) ≡ length d
 unfolding dropped
-dropped-length t d = length-map d (kept t)
+dropped-length t [] = refl
+dropped-length t (w ∷ d) = go (gone t w) (dropped-length t d)
+  where
+    go : (g : Bool) → length (dropped t d) ≡ length d → length (cond g (dropped t d ++ (0 ∷ [])) (w ∷ dropped t d)) ≡ suc (length d)
+    go true ih = length-more (dropped t d) ∙ ap suc ih
+    go false ih = ap suc ih
 
--- every place afterwards
-pub dropped-at : (t : ℕ) (d : List ℕ) (i : ℕ) → getD (dropped t d) i 0 ≡ kept t (getD d i 0)
-unfolding dropped
-dropped-at t [] i = sym (kept-free t)
-dropped-at t (w ∷ d) zero = refl
-dropped-at t (w ∷ d) (suc i) = dropped-at t d i
+-- where no block goes the directory is as it was
+pub dropped-none : (t : ℕ) (d : List ℕ) → any (gone t) d ≡ false → dropped t d ≡ d
+unfolding dropped any
+dropped-none t [] e = refl
+dropped-none t (w ∷ d) e = go (gone t w) (dropped-none t d) e
+  where
+    go : (g : Bool) → (any (gone t) d ≡ false → dropped t d ≡ d) → (g || any (gone t) d) ≡ false
+        → cond g (dropped t d ++ (0 ∷ [])) (w ∷ dropped t d) ≡ w ∷ d
+    go true ih e = let z : _≡_ {A = ℕ} 0 1 = cc in absurd (omega arith)
+    go false ih e = ap (w ∷_) (ih e)
+
+-- and so where no page is touched
+pub dropped-untouched : (t : ℕ) (d : List ℕ) → sound d ≡ true → t ≡ 0 → dropped t d ≡ d
+dropped-untouched t d s z =
+    dropped-none t d (any-none (gone t) d (λ i h e.
+    let n : gone t (getD d i 0) ≡ false = rw z (gone-none (getD d i 0) (sound-at d s i)) in
+    let y : _≡_ {A = ℕ} 0 1 = cc in omega arith))
 
 -- ---- the directory stays fit
-
-holds-kept : (a t w : ℕ) → holds a w ≡ false → holds a (kept t w) ≡ false
-holds-kept a t w e = by (which t w)
-  where
-    by : Kept t w → holds a (kept t w) ≡ false
-    by (stays k n g) = rw k e
-    by (freed k n g) = rw k (holds-free a)
-    by (was-free z) = rw (z, kept-free t) (holds-free a)
 
 any-dropped : (a t : ℕ) (d : List ℕ) → any (holds a) d ≡ false → any (holds a) (dropped t d) ≡ false
 unfolding any dropped
 any-dropped a t [] e = refl
-any-dropped a t (w ∷ d) e = go (holds a w) refl (any-dropped a t d) e
+any-dropped a t (w ∷ d) e = go (gone t w) (holds a w) refl (any-dropped a t d) e
   where
-    go : (b : Bool) → holds a w ≡ b → (any (holds a) d ≡ false → any (holds a) (dropped t d) ≡ false) → (b || any (holds a) d) ≡ false
-        → (holds a (kept t w) || any (holds a) (dropped t d)) ≡ false
-    go true q ih e = let z : _≡_ {A = ℕ} 0 1 = cc in absurd (omega arith)
-    go false q ih e = rw (holds-kept a t w q) (ih e)
+    go : (g b : Bool) → holds a w ≡ b → (any (holds a) d ≡ false → any (holds a) (dropped t d) ≡ false)
+        → (b || any (holds a) d) ≡ false → any (holds a) (cond g (dropped t d ++ (0 ∷ [])) (w ∷ dropped t d)) ≡ false
+    go g true q ih e = let z : _≡_ {A = ℕ} 0 1 = cc in absurd (omega arith)
+    go true false q ih e = any-more a (dropped t d) ∙ ih e
+    go false false q ih e = rw q (ih e)
 
 sound-dropped : (t : ℕ) (d : List ℕ) → sound d ≡ true → sound (dropped t d) ≡ true
 unfolding dropped
 sound-dropped t [] e = e
-sound-dropped t (w ∷ d) e = cons-sound (kept t w) (dropped t d) (by (which t w) (sound-cons w d e) (sound-dropped t d
-    (sound-cons w d e .tail)))
+sound-dropped t (w ∷ d) e = go (gone t w) (sound-cons w d e) (sound-dropped t d (sound-cons w d e .tail))
   where
-    by : Kept t w → SoundCons w d → sound (dropped t d) ≡ true → SoundCons (kept t w) (dropped t d)
-    by (stays k n g) s r = rw k (record { tail = r; first = s .first; alone = λ m. any-dropped (startOf w) t d (s .alone m) })
-    by (freed k n g) s r = rw k (record { tail = r; first = λ m. absurd (m refl); alone = λ m. absurd (m refl) })
-    by (was-free z) s r = rw (z, kept-free t) (record { tail = r; first = λ m. absurd (m refl); alone = λ m. absurd (m refl) })
+    go : (g : Bool) → SoundCons w d → sound (dropped t d) ≡ true → sound (cond g (dropped t d ++ (0 ∷ [])) (w ∷ dropped t d)) ≡ true
+    go true s r = sound-more (dropped t d) ∙ r
+    go false s r =
+        cons-sound w (dropped t d)
+        (record { tail = r; first = s .first; alone = λ m. any-dropped (startOf w) t d (s .alone m) })
 
 pub dropped-fit : (t : ℕ) (d : List ℕ) → fit d ≡ true → fit (dropped t d) ≡ true
 dropped-fit t d f = sound-fit (dropped t d) (dropped-length t d ∙ fit-length d f) (sound-dropped t d (fit-sound d f))
@@ -103,22 +126,19 @@ word-start a (w ∷ d) n = go (holds a w) refl (word-start a d) n
     go false e ih n = ih n
 
 pub word-dropped : (a t : ℕ) (d : List ℕ) → sound d ≡ true → wordAt a (dropped t d) ≡ kept t (wordAt a d)
-unfolding dropped wordAt
+unfolding dropped wordAt kept
 word-dropped a t [] e = sym (kept-free t)
-word-dropped a t (w ∷ d) e = go (holds a w) refl (word-dropped a t d (sound-cons w d e .tail)) (sound-cons w d e)
+word-dropped a t (w ∷ d) e =
+    go (gone t w) refl (holds a w) refl (word-dropped a t d (sound-cons w d e .tail)) (sound-cons w d e)
   where
-    go : (b : Bool) → holds a w ≡ b → wordAt a (dropped t d) ≡ kept t (wordAt a d) → SoundCons w d
-        → cond (holds a (kept t w)) (kept t w) (wordAt a (dropped t d)) ≡ kept t (cond b w (wordAt a d))
-    go false q ih s = rw (holds-kept a t w q) ih
-    go true q ih s = by (which t w)
-      where
-        none-else : wordAt a d ≡ 0
-        none-else = word-none a d (rw (holds-start a w q) at (s .alone (holds-not-free a w q)))
-
-        by : Kept t w → cond (holds a (kept t w)) (kept t w) (wordAt a (dropped t d)) ≡ kept t w
-        by (stays k n g) = rw (k, q)
-        by (freed k n g) = rw (k, holds-free a, ih, none-else) (kept-free t)
-        by (was-free z) = absurd (holds-not-free a w q z)
+    go : (g : Bool) → gone t w ≡ g → (b : Bool) → holds a w ≡ b → wordAt a (dropped t d) ≡ kept t (wordAt a d) → SoundCons w d
+        → wordAt a (cond g (dropped t d ++ (0 ∷ [])) (w ∷ dropped t d)) ≡ kept t (cond b w (wordAt a d))
+    go true p false q ih s = word-more a (dropped t d) ∙ ih
+    go true p true q ih s =
+        let z : wordAt a d ≡ 0 = word-none a d (rw (holds-start a w q) at (s .alone (holds-not-free a w q))) in
+        word-more a (dropped t d) ∙ rw (p, ih, z) (kept-free t)
+    go false p false q ih s = rw q ih
+    go false p true q ih s = rw (q, p)
 
 -- K4: none
 abbrev pub none : Found
@@ -127,21 +147,24 @@ none = foundOf 0
 -- a lookup finds what it found before, but for the blocks that go
 pub lookup-dropped : (t : ℕ) (d : List ℕ) (a : ℕ) → fit d ≡ true
     → lookup (dropped t d) a ≡ cond (lookup d a .held && goes t a (lookup d a .len)) none (lookup d a)
-unfolding lookup
+unfolding lookup kept gone
 lookup-dropped t d a f = rw (dropped-fit t d f, f, word-dropped a t d (fit-sound d f)) (low (ltb a 0x4800))
   where
-    found : Kept t (wordAt a d) → foundOf (kept t (wordAt a d))
-        ≡ cond (not (free (wordAt a d)) && goes t a (lenOf (wordAt a d))) none (foundOf (wordAt a d))
-    found (stays k n g) =
-        let q : goes t a (lenOf (wordAt a d)) ≡ false = rw (word-start a d n) at g in rw (k, q, ne-eqb (wordAt a d) 0 n)
-    found (freed k n g) =
-        let q : goes t a (lenOf (wordAt a d)) ≡ true = rw (word-start a d n) at g in rw (k, q, ne-eqb (wordAt a d) 0 n)
-    found (was-free z) = rw (z, kept-free t)
+    by : (g : Bool) → gone t (wordAt a d) ≡ g → foundOf (kept t (wordAt a d)) ≡ cond g none (foundOf (wordAt a d))
+    by true e = rw e
+    by false e = rw e
+
+    found : Dec (wordAt a d ≡ 0)
+        → foundOf (kept t (wordAt a d)) ≡ cond (not (free (wordAt a d)) && goes t a (lenOf (wordAt a d))) none (foundOf (wordAt a d))
+    found (yes z) = rw (z, kept-free t)
+    found (no n) =
+        let e : gone t (wordAt a d) ≡ (not (free (wordAt a d)) && goes t a (lenOf (wordAt a d))) = rw (word-start a d n) in
+        rw (← e) (by (gone t (wordAt a d)) refl)
 
     low : (l : Bool) → cond l (refusedLookup 8) (foundOf (kept t (wordAt a d)))
         ≡ (let r = cond l (refusedLookup 8) (foundOf (wordAt a d)) in cond (r .held && goes t a (r .len)) none r)
     low true = refl
-    low false = found (which t (wordAt a d))
+    low false = found (ℕ-discrete (wordAt a d) 0)
 
 -- ---- a block that is held is fit, and goes or stays by what was touched
 
@@ -157,17 +180,17 @@ word-fits a (w ∷ d) s n = go (holds a w) n (word-fits a d (sound-cons w d s .t
     go false n ih = ih n
 
 pub kept-goes : (t w : ℕ) → goes t (startOf w) (lenOf w) ≡ true → kept t w ≡ 0
-unfolding kept
-kept-goes t w g = rw g (go (free w))
+unfolding kept gone
+kept-goes t w g = by (ℕ-discrete w 0)
   where
-    go : (b : Bool) → _≡_ {A = ℕ} (cond b 0 (cond true 0 w)) 0
-    go true = refl
-    go false = refl
+    by : Dec (w ≡ 0) → cond (not (free w) && goes t (startOf w) (lenOf w)) 0 w ≡ 0
+    by (yes z) = rw (eq-eqb w 0 z) z
+    by (no n) = rw (ne-eqb w 0 n, g)
 
 pub kept-stays : (t w : ℕ) → goes t (startOf w) (lenOf w) ≡ false → kept t w ≡ w
-unfolding kept
-kept-stays t w g = rw g (by (ℕ-discrete w 0))
+unfolding kept gone
+kept-stays t w g = rw g (go (not (free w)))
   where
-    by : Dec (w ≡ 0) → cond (free w) 0 (cond false 0 w) ≡ w
-    by (yes z) = rw (eq-eqb w 0 z) (sym z)
-    by (no n) = rw (ne-eqb w 0 n)
+    go : (b : Bool) → cond (b && false) 0 w ≡ w
+    go true = refl
+    go false = refl

@@ -12,9 +12,10 @@ use lib.Seq.{getD-set-same, getD-set-other}
 use Rattle.directory.specs.declared.Found.{Found}
 use Rattle.directory.specs.Block.{startOf, lenOf, numberOf, wordOf, fits, free, holds}
 use Rattle.directory.specs.Fit.{any, first, sound, fit}
-use Rattle.directory.specs.Calls.{registerRefusal, placeFor, registered, wordAt, refusedLookup, foundOf, lookup}
+use Rattle.directory.specs.Calls.{registerRefusal, put, withBlock, registered, wordAt, refusedLookup, foundOf, lookup}
 use Rattle.directory.proofs.Laws.Pages.{fits-says}
 use Rattle.directory.proofs.Laws.Places.{first-any}
+use Rattle.directory.proofs.Laws.Put.{put-length, sound-put, word-put}
 use Rattle.directory.proofs.Laws.Sound.{holds-not-free, holds-start, holds-of, holds-other, holds-free, any-at, any-none}
 use Rattle.directory.proofs.Laws.Sound.{SoundCons, sound-cons, cons-sound, sound-once, fit-length, fit-sound, sound-fit}
 
@@ -59,38 +60,17 @@ first-at p (w ∷ d) e = go (first-at p d) (p w) refl e
     go ih true q e = q
     go ih false q e = ih e
 
-pub place-taken : (d : List ℕ) (start : ℕ) → sound d ≡ true → (any (holds start) d || any free d) ≡ true
-    → Place d start (placeFor d start)
-unfolding placeFor
-place-taken d start s room = by (any (holds start) d) refl room
-  where
-    -- a place that holds the start already
-    again : any (holds start) d ≡ true → Place d start (first (holds start) d)
-    again e =
-        let at = first-at (holds start) d e in
-        let w = getD d (first (holds start) d) 0 in
-        record {
-          within = first-any (holds start) d e;
-          only = λ j h q. sound-once d s j (first (holds start) d) (holds-not-free start (getD d j 0) q) (holds-not-free start w at)
-              (holds-start start (getD d j 0) q ∙ sym (holds-start start w at));
-          own = λ a n. holds-other a w (λ q. n (sym q ∙ holds-start start w at));
-        }
-
-    -- the lowest free one
-    new : any (holds start) d ≡ false → any free d ≡ true → Place d start (first free d)
-    new n e =
-        let z : getD d (first free d) 0 ≡ 0 = borrow.Author.Tests.eqb-true _ _ (first-at free d e) in
-        record {
-          within = first-any free d e;
-          only = λ j h q. let y : any (holds start) d ≡ true = any-at (holds start) d j h q in
-              let x : _≡_ {A = ℕ} 0 1 = cc in absurd (omega arith);
-          own = λ a m. rw z (holds-free a);
-        }
-
-    by : (b : Bool) → any (holds start) d ≡ b → (b || any free d) ≡ true
-        → Place d start (cond b (first (holds start) d) (first free d))
-    by true e r = again e
-    by false e r = new e r
+-- a place that holds the start already
+held-place : (d : List ℕ) (start : ℕ) → sound d ≡ true → any (holds start) d ≡ true → Place d start (first (holds start) d)
+held-place d start s e =
+    let at = first-at (holds start) d e in
+    let w = getD d (first (holds start) d) 0 in
+    record {
+      within = first-any (holds start) d e;
+      only = λ j h q. sound-once d s j (first (holds start) d) (holds-not-free start (getD d j 0) q) (holds-not-free start w at)
+          (holds-start start (getD d j 0) q ∙ sym (holds-start start w at));
+      own = λ a n. holds-other a w (λ q. n (sym q ∙ holds-start start w at));
+    }
 
 -- ---- a store into that place
 
@@ -174,51 +154,75 @@ module _ (d : List ℕ) (start len number : ℕ) (s : start < 2 ^ 16) (n : numbe
   unfolding registered
   refused-same r = rw (ne-eqb (registerRefusal d start len) 0 r)
 
-  pub accepted-set : registerRefusal d start len ≡ 0 → registered d start len number ≡ set d (placeFor d start) (wordOf start len number)
+  pub accepted-with : registerRefusal d start len ≡ 0 → registered d start len number ≡ withBlock d start (wordOf start len number)
   unfolding registered
-  accepted-set r = rw (eq-eqb (registerRefusal d start len) 0 r)
+  accepted-with r = rw (eq-eqb (registerRefusal d start len) 0 r)
+
+  -- a new block in front of all others
+  in-front : Accepted d start len → any (holds start) d ≡ false → sound (wordOf start len number ∷ d) ≡ true
+  in-front a e =
+      let w = word-back start len number s (a .block) n in
+      cons-sound (wordOf start len number) d (record {
+        tail = fit-sound d (a .fit-before);
+        first = λ m. rw (w .start-back, w .len-back) (a .block);
+        alone = λ m. rw (w .start-back) e;
+      })
 
   -- registering keeps a directory fit
   pub registered-fit : fit d ≡ true → fit (registered d start len number) ≡ true
+  unfolding withBlock
   registered-fit f = by (ℕ-discrete (registerRefusal d start len) 0)
     where
+      with-block : Accepted d start len → (b : Bool) → any (holds start) d ≡ b
+          → fit (cond b (set d (first (holds start) d) (wordOf start len number)) (put (wordOf start len number) d)) ≡ true
+      with-block a true e =
+          let w = word-back start len number s (a .block) n in
+          let p = held-place d start (fit-sound d f) e in
+          let at = first (holds start) d in
+          sound-fit (set d at (wordOf start len number)) (length-set d at (wordOf start len number) ∙ fit-length d f)
+          (sound-set d at (wordOf start len number) (fit-sound d f) (p .within) (rw (w .start-back, w .len-back) (a .block))
+          (λ j h. rw (w .start-back) (p .only j h)))
+      with-block a false e =
+          let w = word-back start len number s (a .block) n in
+          sound-fit (put (wordOf start len number) d) (put-length (wordOf start len number) d ∙ fit-length d f)
+          (sound-put (wordOf start len number) d (w .held) (in-front a e))
+
       by : Dec (registerRefusal d start len ≡ 0) → fit (registered d start len number) ≡ true
       by (no r) = rw (refused-same r) f
-      by (yes r) =
-          let a = accepted d start len r in
-          let v = wordOf start len number in
-          let w = word-back start len number s (a .block) n in
-          let p = place-taken d start (fit-sound d f) (a .room) in
-          rw (accepted-set r)
-          (sound-fit (set d (placeFor d start) v) (length-set d (placeFor d start) v ∙ fit-length d f)
-          (sound-set d (placeFor d start) v (fit-sound d f) (p .within)
-          (rw (w .start-back, w .len-back) (a .block))
-          (λ j h. rw (w .start-back) (p .only j h))))
+      by (yes r) = rw (accepted-with r) (with-block (accepted d start len r) (any (holds start) d) refl)
 
   -- the block that is held at each start afterwards
   pub word-registered : registerRefusal d start len ≡ 0 → (a : ℕ)
       → wordAt a (registered d start len number) ≡ cond (eqb a start) (wordOf start len number) (wordAt a d)
-  word-registered r a = rw (accepted-set r) (by (ℕ-discrete a start))
+  unfolding withBlock
+  word-registered r a = rw (accepted-with r) (with-block (accepted d start len r) (any (holds start) d) refl (ℕ-discrete a start))
     where
-      v : ℕ
-      v = wordOf start len number
-
-      by : Dec (a ≡ start)
-          → wordAt a (set d (placeFor d start) (wordOf start len number)) ≡ cond (eqb a start) (wordOf start len number) (wordAt a d)
-      by (yes e) =
-          let c = accepted d start len r in
+      with-block : Accepted d start len → (b : Bool) → any (holds start) d ≡ b → Dec (a ≡ start)
+          → wordAt a (cond b (set d (first (holds start) d) (wordOf start len number)) (put (wordOf start len number) d))
+          ≡ cond (eqb a start) (wordOf start len number) (wordAt a d)
+      with-block c true e (yes q) =
           let w = word-back start len number s (c .block) n in
-          let p = place-taken d start (fit-sound d (c .fit-before)) (c .room) in
-          rw (eq-eqb a start e, e)
-          (rw (w .start-back) at (word-set d (placeFor d start) (wordOf start len number) (p .within) (w .held)
+          let p = held-place d start (fit-sound d (c .fit-before)) e in
+          rw (eq-eqb a start q, q)
+          (rw (w .start-back) at (word-set d (first (holds start) d) (wordOf start len number) (p .within) (w .held)
           (λ j h. rw (w .start-back) (p .only j h))))
-      by (no e) =
-          let c = accepted d start len r in
+      with-block c true e (no q) =
           let w = word-back start len number s (c .block) n in
-          let p = place-taken d start (fit-sound d (c .fit-before)) (c .room) in
-          rw (ne-eqb a start e)
-          (word-set-other a d (placeFor d start) (wordOf start len number)
-          (holds-other a (wordOf start len number) (λ q. e (sym q ∙ w .start-back))) (p .own a e))
+          let p = held-place d start (fit-sound d (c .fit-before)) e in
+          rw (ne-eqb a start q)
+          (word-set-other a d (first (holds start) d) (wordOf start len number)
+          (holds-other a (wordOf start len number) (λ z. q (sym z ∙ w .start-back))) (p .own a q))
+      with-block c false e (yes q) =
+          let w = word-back start len number s (c .block) n in
+          let room : any free d ≡ true = rw e at (c .room) in
+          let own : holds start (wordOf start len number) ≡ true = rw (w .start-back) at (holds-of (wordOf start len number) (w .held)) in
+          rw (eq-eqb a start q, q, word-put start (wordOf start len number) d (w .held) (in-front c e) room, own)
+      with-block c false e (no q) =
+          let w = word-back start len number s (c .block) n in
+          let room : any free d ≡ true = rw e at (c .room) in
+          let own : holds a (wordOf start len number) ≡ false =
+          holds-other a (wordOf start len number) (λ z. q (sym z ∙ w .start-back)) in
+          rw (ne-eqb a start q, word-put a (wordOf start len number) d (w .held) (in-front c e) room, own)
 
   -- what a lookup finds after an accepted registering: the block at its start, and what it found before at each other address
   pub lookup-registered : registerRefusal d start len ≡ 0 → (a : ℕ)

@@ -3,9 +3,9 @@ use Prim.Native.Nat.{_-_}
 use mathlib.Core.Path.{_≡_, sym, _∙_}
 use native.Mathlib.Omega.{arith}
 use borrow.Author.Needs.{needs}
-use denote.Ref.{now}
 use lib.ListN.{length}
-use Rattle.directory.proofs.Laws.Places.{Read, read-none, read-next, read-here, read-all}
+use Rattle.directory.specs.Eights.{Read}
+use Rattle.directory.proofs.Laws.Places.{read-next, read-here, read-all}
 use Rattle.directory.proofs.find.Statement.{statement}
 use Rattle.directory.proofs.find.Tie as tie
 
@@ -16,7 +16,7 @@ abbrev μ-loop : tie.MeasureT-loop
 μ-loop d start i₀ i = length d - i
 
 loop-holds : tie.Need-loop-holds Inv-loop μ-loop
-loop-holds c = read-none (c .before .args .start) (now (c .before .args .d))
+loop-holds c = c .place-near .ensures
 
 returns : tie.Need-returns Inv-loop μ-loop
 returns c =
@@ -37,6 +37,7 @@ find-spec =
     (tie.spec
     Inv-loop
     μ-loop
+    (λ c κs. search needs)  -- place-near-requires
     loop-holds
     (λ c. search needs)  -- mul-w
     (λ c. search needs)  -- shared-slice-read-w

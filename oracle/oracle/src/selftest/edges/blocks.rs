@@ -21,6 +21,7 @@ pub fn check(t: &mut Checks) {
     registering(t);
     full(t);
     places(t);
+    other_order(t);
     looking_up(t);
     writes_to_p(t);
     short_ram(t);
@@ -120,26 +121,46 @@ fn full(t: &mut Checks) {
     t.eq("held", directory.blocks().count(), PLACES);
 }
 
-/// K3: a dropped place is used again, the lowest first; 14 counts what is held.
+/// K3, K5: places are in the order of their starts, and those that a drop frees are behind them; 14 counts what is held.
 fn places(t: &mut Checks) {
     let mut cart = loaded(P);
-    for place in 0..PLACES as u16 {
+    for place in (0..PLACES as u16).rev() {
         register(&mut cart, &[(0x6000 + 160 * place, 16)]);
     }
+    t.eq("in order", starts(&cart), (0..PLACES as u16).map(|place| 0x6000 + 160 * place).collect());
     t.eq("a new start", refusal(cart.directory.register(0x6001, 1, 0)), 14);
     // Starts 6400..67FF: 6460, 6500, .., 6780.
     cart.put(0x6400, 0x00);
     let free: Vec<usize> = (0..PLACES).filter(|place| cart.directory.places[*place] == 0).collect();
-    t.eq("dropped", free, (7..=12).collect());
+    t.eq("dropped", free, (250..=255).collect());
+    t.eq("those behind move up", cart.directory.places[7] >> 48, 0x6820);
     for start in 0x6001..0x6007 {
         t.eq("a place that is free again", refusal(cart.directory.register(start, 1, 0)), 0);
     }
-    t.eq("the lowest first", starts(&cart)[7..13].to_vec(), (0x6001..0x6007).collect());
+    t.eq("where they belong", starts(&cart)[..8].to_vec(), vec![0x6000, 0x6001, 0x6002, 0x6003, 0x6004, 0x6005, 0x6006, 0x60A0]);
     t.eq("one more", refusal(cart.directory.register(0x6007, 1, 0)), 14);
     let mut few = with_blocks(loaded(P), &[(0x8000, 1), (0x6000, 1), (0xC000, 1)]);
     few.put(0x6000, 0x00);
-    register(&mut few, &[(0xC000, 2), (0xE000, 1), (0xE001, 1)]);
-    t.eq("order of the places", starts(&few), vec![0x8000, 0xE000, 0xC000, 0xE001]);
+    register(&mut few, &[(0xC000, 2), (0xE000, 1), (0xA000, 1)]);
+    t.eq("order of the places", starts(&few), vec![0x8000, 0xA000, 0xC000, 0xE000]);
+}
+
+/// The same of a lent directory in another order, with free places between.
+fn other_order(t: &mut Checks) {
+    let place = |start: u64| start << 48 | 1 << 32;
+    let first = |cart: &Session, count: usize| cart.directory.places[..count].iter().map(|place| place >> 48).collect::<Vec<u64>>();
+    let mut cart = loaded(P);
+    for (at, start) in [(0, 0xA000), (1, 0x6400), (3, 0x8000), (5, 0x6000)] {
+        cart.directory.places[at] = place(start);
+    }
+    t.eq("8001=00, mapping nothing", cart.put(0x8001, 0x00).prg.mask, 0);
+    t.eq("no block goes", first(&cart, 7), vec![0xA000, 0x6400, 0, 0x8000, 0, 0x6000, 0]);
+    register(&mut cart, &[(0x7000, 1)]);
+    t.eq("carried to the lowest free place", first(&cart, 7), vec![0x7000, 0x6400, 0xA000, 0x8000, 0, 0x6000, 0]);
+    cart.put(0x6400, 0x00);
+    t.eq("taken out", first(&cart, 7), vec![0x7000, 0xA000, 0x8000, 0, 0x6000, 0, 0]);
+    register(&mut cart, &[(0x7000, 2)]);
+    t.eq("replaced", first(&cart, 7), vec![0x7000, 0xA000, 0x8000, 0, 0x6000, 0, 0]);
 }
 
 /// K4: by the start alone; none is an answer; nothing is altered.
@@ -328,7 +349,7 @@ fn loads(t: &mut Checks) {
         ("register $8000 4096 $DEADBEEF", "ok"),
         ("register $6000 16 1", "ok"),
         ("load 20 0 0 1 32768 8192 128 8192 0 2048", "refused 4"),
-        ("directory", "ok 2 $8000 4096 $DEADBEEF $6000 16 $00000001"),
+        ("directory", "ok 2 $6000 16 $00000001 $8000 4096 $DEADBEEF"),
         ("lookup $8000", "ok 4096 $DEADBEEF"),
         ("lookup $8001", "ok none"),
         ("load 19 0 0 1 32768 8192 128 8192 0 2048", "ok"),

@@ -53,7 +53,7 @@ fn by_chr(t: &mut Checks) {
     };
     let mut cart = with_blocks(lent(), &[(0x8000, 1), (0x8400, 1), (0x6000, 1)]);
     t.eq("2005=77", (refusal(cart.chr_write(0x2005, 0x77)), cart.get(0x8005)), (0, 0x77));
-    t.eq("held", starts(&cart), vec![0x8400, 0x6000]);
+    t.eq("held", starts(&cart), vec![0x6000, 0x8400]);
     t.eq("touched", touched_by(&mut lent(), |cart| cart.chr_write(0x2005, 0x77)), 0x1_0000_0000);
     t.eq("by another entry", touched_by(&mut lent(), |cart| cart.chr_write(0x2405, 0x77)), 0);
     let mut closed = lent();
