@@ -98,7 +98,7 @@ pub bit-touched : (old new : List Page) (at : Option ℕ) (k : ℕ) → length o
     → hasBit k (touched old new at) ≡ touchedAt old new at k
 unfolding touched
 bit-touched old new at k l h =
-    rw (bit-or k (changed old new) (shownBy old at), bit-changed old new l k h, bit-shownBy old at k h)
+    bit-or k (changed old new) (shownBy old at) ∙ (λ i. bit-changed old new l k h i || bit-shownBy old at k h i)
 
 -- ---- one call
 

@@ -139,6 +139,9 @@ some-common w a b h =
 pub one-shl : (k : ℕ) → k < 64 → (1 * 2 ^ k) % 2 ^ 64 ≡ 2 ^ k
 one-shl k h = shl-exact 1 k 64 (omega arith) (omega arith) ∙ one-mul (2 ^ k)
 
+pub one-shl-pos : (k : ℕ) → k < 64 → 1 ≤ (1 * 2 ^ k) % 2 ^ 64
+one-shl-pos k h = rw (one-shl k h) (pow-pos k)
+
 -- the code's run of ones
 pub ones-shl : (c f : ℕ) → c < 64 → c + f ≤ 64 → ((1 * 2 ^ c) % 2 ^ 64 - 1) * 2 ^ f % 2 ^ 64 ≡ (2 ^ c - 1) * 2 ^ f
 ones-shl c f h k = rw (one-shl c h) (shl-exact c f 64 (ones-lt c) k)

@@ -46,7 +46,9 @@ loop-again c =
 returns : tie.Need-returns Inv-loop μ-loop
 returns c =
     let c1 = c .before in let turn = c1 .before .before .before .before .before .before in
-    c .all-free .ensures ∙ climbed-stop (turn .loop .inv) (omega arith) (sym (c1 .before .rises .ensures) ∙ not-true (c1 .before .rises .result) (c1 .if2 .taken))
+    c .all-free .ensures
+    ∙ climbed-stop (turn .loop .inv) (omega arith) (sym (c1 .before .rises .ensures)
+    ∙ not-true (c1 .before .rises .result) (c1 .if2 .taken))
 
 loop-again-2 : tie.Need-loop-again-2 Inv-loop μ-loop
 loop-again-2 c =
