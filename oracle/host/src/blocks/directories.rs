@@ -28,6 +28,13 @@ fn block(rng: &mut Rng) -> Block {
     Block { start, length, number: if rng.once_in(4) { 0 } else { rng.number() as u32 } }
 }
 
+/// Half of the time: places in the order of their starts, free ones behind, as calls alone leave them (K3, K5).
+fn maybe_in_order(rng: &mut Rng, directory: &mut Directory) {
+    if rng.once_in(2) {
+        directory.places.sort_unstable_by_key(|place| (*place == 0, *place));
+    }
+}
+
 /// So many blocks of different starts, in any of the places.
 fn holding(rng: &mut Rng, count: usize) -> Directory {
     let mut directory = Directory::default();
@@ -39,6 +46,7 @@ fn holding(rng: &mut Rng, count: usize) -> Directory {
             left -= 1;
         }
     }
+    maybe_in_order(rng, &mut directory);
     directory
 }
 
@@ -83,6 +91,7 @@ pub fn unfit(rng: &mut Rng, way: usize) -> Directory {
         9 => rng.number() | 1,
         _ => 0,
     };
+    maybe_in_order(rng, &mut directory);
     match way {
         7 => directory.places.truncate(rng.pick(&[0, 1, 128, PLACES - 1])),
         8 => directory.places.resize(rng.pick(&[PLACES + 1, 2 * PLACES, 1_000]), 0),

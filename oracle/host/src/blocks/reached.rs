@@ -14,10 +14,10 @@ use oracle::{
 
 const NEW: &str = "registers of a new start";
 const LAST: &str = "registers into the last free place";
-const REUSED: &str = "registers into a place below a held one";
+const BETWEEN: &str = "registers in front of a held block";
 const REPLACED: &str = "registers of a held start";
 const REPLACED_FULL: &str = "registers of a held start with all places held";
-const REGISTERS: [&str; 5] = [NEW, LAST, REUSED, REPLACED, REPLACED_FULL];
+const REGISTERS: [&str; 5] = [NEW, LAST, BETWEEN, REPLACED, REPLACED_FULL];
 
 const LOOKED_UP: &str = "lookups of a block";
 const LOOKED_UP_NONE: &str = "lookups of none";
@@ -102,7 +102,7 @@ fn register(counts: &mut Counts, before: &Directory, after: &Directory, start: u
     let last_held = before.places.iter().rposition(|place| *place != 0);
     counts.reach(NEW);
     counts.reach_if(held == PLACES - 1, LAST);
-    counts.reach_if(place < last_held, REUSED);
+    counts.reach_if(place < last_held, BETWEEN);
 }
 
 fn find(counts: &mut Counts, directory: &Directory, start: u16, word: u64) {
