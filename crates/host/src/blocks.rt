@@ -41,7 +41,8 @@ pub extern "C" fn namco163_lookup(directory: &[u64], start: u16) -> u64
     found.refusal as u64 + found.len as u64 * 256 + found.number as u64 * 4_294_967_296
 }
 
-// The same without the tests of N2 and N8: of a fit directory the word is a lookup's (found-word), and 0 below 6000 (low-none of directory).
+// The same without the tests of N2 and N8: of a fit directory the word is a lookup's (found-word), and 0 below 6000 (low-none of
+// directory).
 #[no_mangle]
 pub extern "C" fn namco163_find(directory: &[u64], start: u16) -> u64
     ensures { λ r. ⌜ r ≡ hostFind (now (directory .entry)) start ⌝ }
