@@ -1,28 +1,35 @@
 -- A call with a directory: refused where that is unfit, else as the call's own checks say.
 use Prim.Native.Nat.{ℕ}
 use mathlib.Core.Path.{_≡_, refl, sym, ap, _∙_}
-use mathlib.Core.Bool.{Bool, true, false}
+use mathlib.Core.Bool.{Bool, true, false, cond, not, _||_}
 use mathlib.Core.List.{List, []}
-use native.Mathlib.Omega.{arith}
+use mathlib.Core.Option.{Option}
 use lib.Bits.{bitOr}
-use lib.ListN.{length}
-use borrow.Author.Tests.{eq-eqb, ne-eqb}
+use lib.Dec.{ltb}
+use lib.ListN.{length, replicate}
+use borrow.Author.Tests.{not-true, not-false, eq-eqb, ne-eqb}
 use Rattle.memory.specs.Changes.{changes, prgChanges}
 use Rattle.memory_bytes.specs.Bytes.{prgEntry, storedAt}
 use Rattle.memory.specs.declared.layout.MemoryLayout.{MemoryLayout}
+use Rattle.memory.specs.declared.page.Page.{Page}
 use Rattle.board_state.specs.declared.State.{State}
 use Rattle.board_state.specs.None.{noState}
 use Rattle.board_state.specs.State.{inRange}
 use Rattle.call_refusals.specs.Refusals.{Check, firstOf, unlessRefused, unlessKept, cpuChecks, loadChecks}
 use Rattle.call_refusals.proofs.Laws.{refused-is, accepted-is, number-is}
 use Rattle.call_cpu.specs.declared.calls.Written.{Written}
-use Rattle.call_cpu.specs.Calls.{writeRegister, refusedWrite, cpuWrite, cpuWriteArena}
+use Rattle.call_cpu.specs.Calls.{refusedWrite, cpuWrite, cpuWriteArena}
 use Rattle.call_load.specs.declared.Loaded.{Loaded}
 use Rattle.call_load.specs.Cartridge.{loadAnswer, loadArena}
-use Rattle.directory.specs.Fit.{fit}
+use Rattle.directory.specs.Block.{fits, free, holds}
+use Rattle.directory.specs.Fit.{any, fit}
+use Rattle.directory.specs.Calls.{registerRefusal}
+use Rattle.directory.specs.Drop.{dropped}
+use Rattle.directory.proofs.Laws.Sound.{fit-length}
 use Rattle.directory_touched.specs.Touched.{shownBy, touched}
+use Rattle.directory_touched.proofs.Laws.{touched-same}
 use Rattle.call_blocks.specs.Blocks.{withDirectory, emptied, cpuTouched, cpuWriteAnswer, cpuWriteLeaves, cpuWriteDrops}
-use Rattle.call_blocks.specs.Blocks.{loadGives, loadLeaves, loadDrops}
+use Rattle.call_blocks.specs.Blocks.{registerChecks, loadGives, loadLeaves, loadDrops}
 
 module _ (d : List ℕ) (cs : List Check) where
   pub unfit-number : fit d ≡ false → firstOf (withDirectory d cs) ≡ 2
@@ -51,33 +58,59 @@ pub given-fit : {A : Type 0} (d : List ℕ) (r : ℕ → A) (a : A) → fit d �
 unfolding firstOf
 given-fit d r a e = given-accepted d [] r a e refl
 
+-- the test of the directory, by what it answered
+pub unfit-here : (d : List ℕ) {r : Bool} → r ≡ fit d → not r ≡ true → fit d ≡ false
+unfit-here d {r} e h = sym e ∙ not-true r h
+
+pub fit-here : (d : List ℕ) {r : Bool} → r ≡ fit d → not r ≡ false → fit d ≡ true
+fit-here d {r} e h = sym e ∙ not-false r h
+
 -- ---- what a call answers, and what it leaves of the arena and of the places: `own` are its own checks, `after` the arena that the call
--- without a directory leaves, and `drop` the places without the blocks that go
+-- without a directory leaves, and `drop` the places without the blocks that go; `call` is what that call answered and left
 
 module _ (d : List ℕ) (own : List Check) (arena after drop : List ℕ) where
-  abbrev leaves : List ℕ
-  leaves = unlessKept (withDirectory d []) arena after
+  abbrev Told : ℕ → List ℕ → List ℕ → Type 0
+  Told q left places =
+      (q ≡ firstOf (withDirectory d own)) × ((left ≡ unlessKept (withDirectory d []) arena after)
+      × (places ≡ unlessKept (withDirectory d own) d drop))
 
-  abbrev drops : List ℕ
-  drops = unlessKept (withDirectory d own) d drop
-
-  pub told-unfit : fit d ≡ false → (2 ≡ firstOf (withDirectory d own)) × ((arena ≡ leaves) × (d ≡ drops))
+  pub told-unfit : fit d ≡ false → Told 2 arena d
   told-unfit e = (sym (unfit-number d own e), (sym (given-unfit d [] (λ q. arena) after e), sym (given-unfit d own (λ q. d) drop e)))
 
-  pub told-refused : fit d ≡ true → (q : ℕ) → q ≡ firstOf own → (q ≡ 0 → ⊥)
-      → (q ≡ firstOf (withDirectory d own)) × ((after ≡ leaves) × (d ≡ drops))
-  told-refused e q f h = (
-    f ∙ sym (fit-number d own e),
-    (sym (given-fit d (λ q. arena) after e), sym (given-refused d own (λ q. d) drop e (λ z. h (f ∙ z)))),
+  pub told-refused : fit d ≡ true → {q : ℕ} {left : List ℕ} → (q ≡ firstOf own) × (left ≡ after) → (q ≡ 0 → ⊥) → Told q left d
+  told-refused e call h = (
+    call .0 ∙ sym (fit-number d own e),
+    (call .1 ∙ sym (given-fit d (λ q. arena) after e), sym (given-refused d own (λ q. d) drop e (λ z. h (call .0 ∙ z)))),
   )
 
-  pub told-accepted : fit d ≡ true → (q : ℕ) → q ≡ firstOf own → q ≡ 0
-      → (0 ≡ firstOf (withDirectory d own)) × ((after ≡ leaves) × (drop ≡ drops))
-  told-accepted e q f z =
-      let n = sym f ∙ z in (
+  pub told-accepted : fit d ≡ true → {q : ℕ} {left : List ℕ} → (q ≡ firstOf own) × (left ≡ after) → q ≡ 0
+      → {places : List ℕ} → places ≡ drop → Told 0 left places
+  told-accepted e call z gone =
+      let n = sym (call .0) ∙ z in (
         sym (fit-number d own e ∙ n),
-        (sym (given-fit d (λ q. arena) after e), sym (given-accepted d own (λ q. d) drop e n)),
+        (call .1 ∙ sym (given-fit d (λ q. arena) after e), gone ∙ sym (given-accepted d own (λ q. d) drop e n)),
       )
+
+-- K5: where no entry changes, the blocks go over the pages that show the stored byte
+pub stored-gone : (pages : List Page) (at : Option ℕ) (d : List ℕ) {mask : ℕ} {left : List ℕ} → mask ≡ shownBy pages at
+    → left ≡ dropped mask d → left ≡ dropped (touched pages pages at) d
+stored-gone pages at d is gone = gone ∙ ap (λ (x : ℕ). dropped x d) (is ∙ sym (touched-same pages at))
+
+-- K6: all places of a fit directory
+pub all-gone : (d : List ℕ) {left : List ℕ} → fit d ≡ true → left ≡ replicate (length d) 0 → left ≡ emptied
+all-gone d e gone = gone ∙ ap (λ (k : ℕ). replicate k 0) (fit-length d e)
+
+-- ---- registering
+
+pub register-number : (d : List ℕ) (start len : ℕ) → firstOf (registerChecks d start len) ≡ registerRefusal d start len
+unfolding firstOf registerRefusal
+register-number d start len =
+    ap (λ (n : ℕ). cond (not (fit d)) 2 (cond (ltb start 0x4800) 8 (cond (not (fits start len)) 13 n)))
+    (go (any (holds start) d || any free d))
+  where
+    go : (r : Bool) → _≡_ {A = ℕ} (cond (not r) 14 0) (cond r 0 14)
+    go true = refl
+    go false = refl
 
 -- ---- CPU write
 

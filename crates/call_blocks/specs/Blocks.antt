@@ -1,7 +1,8 @@
 -- K5 to K7: the calls that take a directory of blocks beside what they take without one: what each answers, what it leaves in the arena,
--- and which blocks it drops, refused calls too. The answer and the arena are those of the call without a directory.
+-- and which blocks it drops, refused calls too. The answer and the arena are those of the call without a directory. Of registering and
+-- looking up, which are directory's, the checks.
 use Prim.Native.Nat.{ℕ}
-use mathlib.Core.Bool.{Bool, not}
+use mathlib.Core.Bool.{Bool, not, _||_}
 use mathlib.Core.List.{List, [], _∷_}
 use lib.Dec.{eqb}
 use lib.ListN.{length, replicate}
@@ -11,8 +12,8 @@ use Rattle.memory.specs.Memory.{regionIn}
 use Rattle.memory_bytes.specs.Bytes.{prgEntry, chrEntry, storedAt, wrappedAt}
 use Rattle.board_state.specs.declared.State.{State}
 use Rattle.board_state.specs.None.{noState}
-use Rattle.call_refusals.specs.Refusals.{Check, firstOf, unlessRefused, unlessKept}
-use Rattle.call_refusals.specs.Refusals.{arenaChecks, cpuChecks, fillChecks, batteryChecks, loadChecks}
+use Rattle.call_refusals.specs.Refusals.{Check, unlessRefused, unlessKept}
+use Rattle.call_refusals.specs.Refusals.{addressCheck, arenaChecks, cpuChecks, fillChecks, batteryChecks, loadChecks}
 use Rattle.call_load.specs.declared.Loaded.{Loaded}
 use Rattle.call_load.specs.Cartridge.{loadAnswer, loadArena}
 use Rattle.call_cpu.specs.declared.calls.Written.{Written}
@@ -21,7 +22,8 @@ use Rattle.call_preview.specs.declared.Previewed.{Previewed}
 use Rattle.call_preview.specs.Preview.{answerOf, preview}
 use Rattle.call_regions.specs.Regions.{chrWriteArena, fillArena, regionWriteArena}
 use Rattle.call_battery.specs.Battery.{syncArena}
-use Rattle.directory.specs.Fit.{fit}
+use Rattle.directory.specs.Block.{fits, free, holds}
+use Rattle.directory.specs.Fit.{any, fit}
 use Rattle.directory.specs.Drop.{dropped}
 use Rattle.directory_touched.specs.Touched.{touched}
 
@@ -32,6 +34,23 @@ directoryCheck d = record { number = 2; holds = not (fit d) }
 -- N2: the same of what the call makes of its own
 abbrev pub withDirectory : List ℕ → List Check → List Check
 withDirectory d own = directoryCheck d ∷ own
+
+-- ---- registering and looking up: K3, K4
+
+-- N13: the block leaves the cartridge's addresses or has another length than a block may have
+abbrev pub blockCheck : ℕ → ℕ → Check
+blockCheck start len = record { number = 13; holds = not (fits start len) }
+
+-- N14: no place holds the start, and none is free
+abbrev pub fullCheck : List ℕ → ℕ → Check
+fullCheck d start = record { number = 14; holds = not (any (holds start) d || any free d) }
+
+-- N20: their checks; a registering's first number is directory's `registerRefusal` (register-number)
+abbrev pub registerChecks : List ℕ → ℕ → ℕ → List Check
+registerChecks d start len = directoryCheck d ∷ addressCheck start ∷ blockCheck start len ∷ fullCheck d start ∷ []
+
+abbrev pub lookupChecks : List ℕ → ℕ → List Check
+lookupChecks d start = directoryCheck d ∷ addressCheck start ∷ []
 
 -- ---- CPU write: K5
 

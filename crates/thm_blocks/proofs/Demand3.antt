@@ -2,11 +2,11 @@
 use Prim.Native.Nat.{ℕ, _+_, _<_}
 use mathlib.Core.Path.{_≡_, refl, sym, subst, ap, _∙_}
 use mathlib.Core.Logic.{_⊎_, inl, inr}
-use mathlib.Core.Bool.{Bool, true, false, cond}
+use mathlib.Core.Bool.{Bool, true, false}
 use mathlib.Core.List.{List, [], _∷_, _++_}
 use lib.Ieee.{Float}
 use Rattle.cut.specs.Calls.{Call, run, other, outline, allClocks, start}
-use Rattle.cut.specs.Counter.{Counter, risesFrom, nextCounter}
+use Rattle.cut.specs.Counter.{Counter}
 use Rattle.cut.specs.Machine.{machine}
 use Rattle.cut.specs.Demand3.{observed, Demand3, FirstRise, Untouched}
 use Rattle.cut.proofs.Demand3.{demand-3 as demand-3-of}
@@ -77,50 +77,31 @@ BlocksNoneTouch (other (register start len number) ∷ calls) = BlocksNoneTouch 
 BlocksNoneTouch (other (lookup start) ∷ calls) = BlocksNoneTouch calls
 
 -- what a base call leaves of state and arena is what it leaves without a directory, or what it was lent
-either : (a : Other) (h : HeldBlocks) → (baseGives a h .state .held ≡ otherGives a (h .held) .state)
-    ⊎ (baseGives a h .state .held ≡ h .held)
+abbrev Either : Other → HeldBlocks → Type 0
+Either a h = (baseGives a h .state .held ≡ otherGives a (h .held) .state) ⊎ (baseGives a h .state .held ≡ h .held)
+
+by-fit : (a : Other) (h : HeldBlocks) → (fit (h .places) ≡ true → baseGives a h .state .held ≡ otherGives a (h .held) .state)
+    → (fit (h .places) ≡ false → baseGives a h .state .held ≡ h .held)
+    → Either a h
+by-fit a h y n = go (fit (h .places)) refl
+  where
+    go : (f : Bool) → fit (h .places) ≡ f → Either a h
+    go true f = inl (y f)
+    go false f = inr (n f)
+
+either : (a : Other) (h : HeldBlocks) → Either a h
 unfolding baseGives otherGives firstOf cpuWriteAnswer cpuWriteLeaves chrWriteLeaves regionWriteLeaves fillLeaves syncLeaves
 either (cpuRead addr) h = inl refl
 either (cpuPeek addr) h = inl refl
-either (cpuWrite addr v) h = go (fit (h .places)) refl
-  where
-    go : (f : Bool) → fit (h .places) ≡ f
-        → (baseGives (cpuWrite addr v) h .state .held ≡ otherGives (cpuWrite addr v) (h .held) .state)
-        ⊎ (baseGives (cpuWrite addr v) h .state .held ≡ h .held)
-    go true f = inl (rw f)
-    go false f = inr (rw f)
+either (cpuWrite addr v) h = by-fit (cpuWrite addr v) h (λ f. rw f) (λ f. rw f)
 either (chrRead addr) h = inl refl
-either (chrWrite addr v) h = go (fit (h .places)) refl
-  where
-    go : (f : Bool) → fit (h .places) ≡ f
-        → (baseGives (chrWrite addr v) h .state .held ≡ otherGives (chrWrite addr v) (h .held) .state)
-        ⊎ (baseGives (chrWrite addr v) h .state .held ≡ h .held)
-    go true f = inl (rw f)
-    go false f = inr (rw f)
-either (fill src bytes) h = go (fit (h .places)) refl
-  where
-    go : (f : Bool) → fit (h .places) ≡ f
-        → (baseGives (fill src bytes) h .state .held ≡ otherGives (fill src bytes) (h .held) .state)
-        ⊎ (baseGives (fill src bytes) h .state .held ≡ h .held)
-    go true f = inl (rw f)
-    go false f = inr (rw f)
+either (chrWrite addr v) h = by-fit (chrWrite addr v) h (λ f. rw f) (λ f. rw f)
+either (fill src bytes) h = by-fit (fill src bytes) h (λ f. rw f) (λ f. rw f)
 either (regionPeek src offset) h = inl refl
-either (regionWrite src offset v) h = go (fit (h .places)) refl
-  where
-    go : (f : Bool) → fit (h .places) ≡ f
-        → (baseGives (regionWrite src offset v) h .state .held ≡ otherGives (regionWrite src offset v) (h .held) .state)
-        ⊎ (baseGives (regionWrite src offset v) h .state .held ≡ h .held)
-    go true f = inl (rw f)
-    go false f = inr (rw f)
+either (regionWrite src offset v) h = by-fit (regionWrite src offset v) h (λ f. rw f) (λ f. rw f)
 either sram h = inl refl
 either (reset kind) h = inl refl
-either syncBattery h = go (fit (h .places)) refl
-  where
-    go : (f : Bool) → fit (h .places) ≡ f
-        → (baseGives syncBattery h .state .held ≡ otherGives syncBattery (h .held) .state)
-        ⊎ (baseGives syncBattery h .state .held ≡ h .held)
-    go true f = inl (rw f)
-    go false f = inr (rw f)
+either syncBattery h = by-fit syncBattery h (λ f. rw f) (λ f. rw f)
 either restoreBattery h = inl refl
 either (writeImage buffer) h = inl refl
 
@@ -129,8 +110,7 @@ base-leaves : (a : Other) → touches a ≡ false → (h : HeldBlocks)
     → (blockCounter (baseGives a h .state) ≡ blockCounter h) × (blockLine (baseGives a h .state) ≡ blockLine h)
 base-leaves a t h = go (either a h)
   where
-    go : (baseGives a h .state .held ≡ otherGives a (h .held) .state) ⊎ (baseGives a h .state .held ≡ h .held)
-        → (blockCounter (baseGives a h .state) ≡ blockCounter h) × (blockLine (baseGives a h .state) ≡ blockLine h)
+    go : Either a h → (blockCounter (baseGives a h .state) ≡ blockCounter h) × (blockLine (baseGives a h .state) ≡ blockLine h)
     go (inl e) = let u = untouched (other a ∷ []) (t, tt) .0 (h .held) in (ap counterOf e ∙ u .0, ap lineOf e ∙ u .1)
     go (inr e) = (ap counterOf e, ap lineOf e)
 

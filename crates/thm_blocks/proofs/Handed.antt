@@ -1,23 +1,24 @@
 -- K8 and K9 over lists of calls on the board that the contracts give: from any state, arena and directory, and from every load.
 use Prim.Native.Nat.{ℕ, zero, suc, _^_, _<_}
 use mathlib.Core.Path.{_≡_, refl, sym, subst, ap, _∙_}
-use mathlib.Core.Bool.{Bool, true, false, cond, not, _&&_, _||_}
+use mathlib.Core.Bool.{Bool, true, false, _&&_}
 use mathlib.Core.List.{List, [], _∷_, _++_}
 use native.Mathlib.Omega.{arith}
 use native.Mathlib.Decide.{ℕ-discrete}
 use borrow.Author.Tests.{eq-eqb, ne-eqb, eqb-true, le-ltb}
-use lib.Dec.{ltb, eqb}
+use lib.Dec.{ltb}
 use lib.Ieee.{Float}
 use Rattle.cut.specs.Calls.{Call, run, other, answered, RunGave, Point, start, noted, afterRun}
 use Rattle.memory.specs.Range.{MemoryTyped}
 use Rattle.call_refusals.specs.Refusals.{firstOf}
-use Rattle.directory.specs.Block.{startOf, lenOf, numberOf, wordOf, fits, free}
+use Rattle.directory.specs.Block.{startOf, lenOf, numberOf, wordOf}
 use Rattle.directory.specs.Fit.{sound, fit}
 use Rattle.directory.specs.Calls.{registerRefusal, registered, wordAt, lookup as lookupGives}
 use Rattle.directory.proofs.Laws.Pages.{fits-says}
 use Rattle.directory.proofs.Laws.Registered.{accepted as register-accepted, word-back, registered-fit}
 use Rattle.directory.proofs.Laws.Dropped.{word-start, dropped-fit}
 use Rattle.call_blocks.specs.Blocks.{emptied}
+use Rattle.call_blocks.proofs.Laws.{register-number as number-of}
 use Rattle.handed.specs.Handed.{Kind, registers, other as another, AllTyped, Always, NoneOf, NoCause}
 use Rattle.handed.specs.Handed as Any
 use Rattle.handed.proofs.Handed as Any-proofs
@@ -131,19 +132,8 @@ kind-says (other (lookup s)) h a w e = let z : _≡_ {A = ℕ} 0 1 = cc in absur
 
 -- accepted is what the scope's checks say
 register-number : (s l n : ℕ) (h : HeldBlocks) → firstOf (blockChecks (register s l n) h) ≡ registerRefusal (h .places) s l
-unfolding blockChecks firstOf registerRefusal
-register-number s l n h =
-    go (fit (h .places)) (ltb s 0x4800) (fits s l)
-    (Rattle.directory.specs.Fit.any (Rattle.directory.specs.Block.holds s) (h .places) || Rattle.directory.specs.Fit.any free (h .places))
-  where
-    go : (f l b r : Bool)
-        → _≡_ {A = ℕ} (cond (not f) 2 (cond l 8 (cond (not b) 13 (cond (not r) 14 0)))) (cond (not f) 2 (cond l 8 (cond (not b) 13
-        (cond r 0 14))))
-    go false l b r = refl
-    go true true b r = refl
-    go true false false r = refl
-    go true false true false = refl
-    go true false true true = refl
+unfolding blockChecks
+register-number s l n h = number-of (h .places) s l
 
 taken-accepted : (s l n : ℕ) (h : HeldBlocks) → registerRefusal (h .places) s l ≡ 0 → accepted (register s l n) h ≡ true
 taken-accepted s l n h e = eq-eqb (firstOf (blockChecks (register s l n) h)) 0 (register-number s l n h ∙ e)

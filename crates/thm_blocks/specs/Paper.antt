@@ -1,17 +1,16 @@
 -- What the scope says of the calls with a directory: which take it and are refused by it (K2), what they do with its places (K5, K6), and
 -- registering and looking up (K3, K4). All else is the scope's of the calls without one.
 use Prim.Native.Nat.{ℕ}
-use mathlib.Core.Bool.{Bool, true, false, cond, not, _||_}
-use mathlib.Core.List.{List, [], _∷_}
+use mathlib.Core.Bool.{Bool, true, false, cond}
+use mathlib.Core.List.{List}
 use lib.Ieee.{Float}
 use Rattle.cut.specs.Machine.{Clocked, Answered, Paper}
-use Rattle.call_refusals.specs.Refusals.{Check, firstOf, addressCheck}
+use Rattle.call_refusals.specs.Refusals.{Check, firstOf}
 use Rattle.call_run.specs.Run.{runChecks}
-use Rattle.directory.specs.Block.{lenOf, numberOf, wordOf, fits, free, holds}
-use Rattle.directory.specs.Fit.{any}
+use Rattle.directory.specs.Block.{lenOf, numberOf, wordOf, free}
 use Rattle.directory.specs.Calls.{withBlock, wordAt}
 use Rattle.directory.specs.Drop.{dropped}
-use Rattle.call_blocks.specs.Blocks.{directoryCheck, withDirectory, emptied, cpuTouched, chrTouched, regionTouched}
+use Rattle.call_blocks.specs.Blocks.{withDirectory, registerChecks, lookupChecks, emptied, cpuTouched, chrTouched, regionTouched}
 use Rattle.thm_machine.specs.Calls.{Held, Other, cpuRead, cpuPeek, cpuWrite, chrRead, chrWrite, fill, regionPeek, regionWrite, sram}
 use Rattle.thm_machine.specs.Calls.{reset, syncBattery, restoreBattery, writeImage, done}
 use Rattle.thm_machine.specs.Paper.{clock, checks, answers}
@@ -38,20 +37,11 @@ takes syncBattery = true
 takes restoreBattery = false
 takes (writeImage buffer) = false
 
--- N13: the block leaves the cartridge's addresses or has another length than a block may have
-abbrev pub blockCheck : ℕ → ℕ → Check
-blockCheck start len = record { number = 13; holds = not (fits start len) }
-
--- N14: no place holds the start, and none is free
-abbrev pub fullCheck : List ℕ → ℕ → Check
-fullCheck d start = record { number = 14; holds = not (any (holds start) d || any free d) }
-
 -- N20: the checks of each call, in the order of their numbers
 unfoldable pub blockChecks : BlockCall → HeldBlocks → List Check
 blockChecks (base a) h = cond (takes a) (withDirectory (h .places) (checks a (h .held))) (checks a (h .held))
-blockChecks (register start len number) h =
-    directoryCheck (h .places) ∷ addressCheck start ∷ blockCheck start len ∷ fullCheck (h .places) start ∷ []
-blockChecks (lookup start) h = directoryCheck (h .places) ∷ addressCheck start ∷ []
+blockChecks (register start len number) h = registerChecks (h .places) start len
+blockChecks (lookup start) h = lookupChecks (h .places) start
 
 -- K5, K6: the places after an accepted call
 abbrev pub placesAfter : Other → Held → List ℕ → List ℕ

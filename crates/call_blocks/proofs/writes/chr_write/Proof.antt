@@ -1,20 +1,11 @@
 -- `chr_write` meets its contract: the directory unfit, the call refused, and accepted.
-use Prim.Native.Nat.{ℕ}
-use mathlib.Core.Path.{_≡_, sym, ap, _∙_}
+use mathlib.Core.Path.{_≡_}
 use mathlib.Core.Bool.{true}
 use borrow.Author.Needs.{needs}
-use borrow.Author.Tests.{not-true, not-false}
 use denote.Ref.{now}
-use lib.ListN.{length}
 use Rattle.directory.specs.Fit.{fit}
-use Rattle.directory.specs.Drop.{dropped}
-use Rattle.directory_touched.proofs.Laws.{touched-same}
-use Rattle.board_state.proofs.Range.{memory-good}
-use Rattle.call_refusals.specs.Refusals.{arenaChecks}
-use Rattle.call_refusals.proofs.Laws.{arena-good}
-use Rattle.call_regions.specs.Regions.{chrWriteArena}
 use Rattle.call_blocks.specs.Blocks.{chrTouched, chrWriteLeaves, chrWriteDrops}
-use Rattle.call_blocks.proofs.Laws.{told-unfit, told-refused, told-accepted}
+use Rattle.call_blocks.proofs.Laws.{unfit-here, fit-here, told-unfit, told-refused, told-accepted, stored-gone}
 use Rattle.call_blocks.proofs.writes.chr_write.Statement.{statement}
 use Rattle.call_blocks.proofs.writes.chr_write.Tie as tie
 
@@ -28,38 +19,31 @@ tested c = c .before .before .before
 abbrev made : tie.Else2 → tie.After-chr-write
 made c = c .before .before .before
 
-fit-here : (c : tie.After-chr-write) → fit (now (start (tested c) .args .d)) ≡ true
-fit-here c = sym (tested c .fit .ensures) ∙ not-false (tested c .fit .result) (c .before .before .if1 .left)
+passed : (c : tie.After-chr-write) → fit (now (start (tested c) .args .d)) ≡ true
+passed c = fit-here _ (tested c .fit .ensures) (c .before .before .if1 .left)
 
 returns : tie.Need-returns
 unfolding chrWriteLeaves chrWriteDrops
 returns c =
     let a = start (c .before) .args in
-    told-unfit (a .d .now) (arenaChecks (a .s) (length (a .arena .now))) (a .arena .now) _ _
-    (sym (c .before .fit .ensures) ∙ not-true (c .before .fit .result) (c .if1 .taken))
+    told-unfit (a .d .now) _ (a .arena .now) _ _ (unfit-here _ (c .before .fit .ensures) (c .if1 .taken))
 
 returns-2 : tie.Need-returns-2
 unfolding chrWriteLeaves chrWriteDrops
 returns-2 c =
-    let m = c .before .before .before in let a = start (tested m) .args in let w = m .chr-write .ensures in
-    let t = told-refused (a .d .now) (arenaChecks (a .s) (length (a .arena .now))) (a .arena .now) (chrWriteArena (a .s) (a .arena .now)
-    (a .addr) (a .val))
-    (dropped (chrTouched (a .s) (a .addr)) (a .d .now)) (fit-here m) _ (w .0) (c .if2 .taken) in
-    (t .0, (w .1 ∙ t .1 .0, t .1 .1))
+    let m = c .before .before .before in let a = start (tested m) .args in
+    told-refused (a .d .now) _ (a .arena .now) _ _ (passed m) (m .chr-write .ensures) (c .if2 .taken)
 
 drop-touched-requires : tie.Need-drop-touched-requires
-drop-touched-requires c κs = fit-here (made (c .before .before .before))
+drop-touched-requires c κs = passed (made (c .before .before .before))
 
 returns-3 : tie.Need-returns-3
 unfolding chrWriteLeaves chrWriteDrops chrTouched
 returns-3 c =
     let drop = c .before .before in let stored = drop .before .before in let else = stored .before .before in
-    let m = made else in let a = start (tested m) .args in let w = m .chr-write .ensures in
-    let t = told-accepted (a .d .now) (arenaChecks (a .s) (length (a .arena .now))) (a .arena .now) (chrWriteArena (a .s)
-    (a .arena .now) (a .addr) (a .val))
-    (dropped (chrTouched (a .s) (a .addr)) (a .d .now)) (fit-here m) _ (w .0) (else .if2 .left) in
-    let mask = stored .stored-chr .ensures ∙ sym (touched-same (a .s .memory .«prg_pages») _) in
-    (t .0, (w .1 ∙ t .1 .0, drop .drop-touched .ensures ∙ ap (λ (x : ℕ). dropped x (a .d .now)) mask ∙ t .1 .1))
+    let m = made else in let a = start (tested m) .args in
+    told-accepted (a .d .now) _ (a .arena .now) _ _ (passed m) (m .chr-write .ensures) (else .if2 .left)
+    (stored-gone (a .s .memory .«prg_pages») _ (a .d .now) (stored .stored-chr .ensures) (drop .drop-touched .ensures))
 
 pub chr-write-spec : {M : Type 1} → statement M
 chr-write-spec =

@@ -3,7 +3,6 @@ use Prim.Native.Nat.{ℕ}
 use mathlib.Core.Path.{_≡_, sym, ap, ap₂, _∙_}
 use mathlib.Core.Bool.{true}
 use borrow.Author.Needs.{needs}
-use borrow.Author.Tests.{not-true, not-false}
 use denote.Ref.{now}
 use lib.Bits.{bitOr}
 use lib.ListN.{length}
@@ -11,9 +10,10 @@ use Rattle.directory.specs.Fit.{fit}
 use Rattle.directory.specs.Drop.{dropped}
 use Rattle.call_refusals.specs.Refusals.{cpuChecks, firstOf}
 use Rattle.call_cpu.specs.declared.calls.Written.{Written}
-use Rattle.call_cpu.specs.Calls.{refusedWrite, cpuWrite, cpuWriteArena}
-use Rattle.call_blocks.specs.Blocks.{cpuTouched, cpuWriteAnswer, cpuWriteLeaves, cpuWriteDrops}
-use Rattle.call_blocks.proofs.Laws.{given-unfit, given-fit, told-unfit, told-refused, told-accepted, write-number, touched-written}
+use Rattle.call_cpu.specs.Calls.{refusedWrite}
+use Rattle.call_blocks.specs.Blocks.{cpuWriteAnswer, cpuWriteLeaves, cpuWriteDrops}
+use Rattle.call_blocks.proofs.Laws.{given-unfit, given-fit, unfit-here, fit-here, told-unfit, told-refused, told-accepted}
+use Rattle.call_blocks.proofs.Laws.{write-number, touched-written}
 use Rattle.call_blocks.proofs.writes.cpu_write_known.Statement.{statement}
 use Rattle.call_blocks.proofs.writes.cpu_write_known.Tie as tie
 
@@ -24,10 +24,8 @@ start c = c .before .before .before .before
 abbrev tested : tie.After-cpu-write-known → tie.After-fit
 tested c = c .before .before .before .before .before
 
-fit-here : (c : tie.After-cpu-write-known) → fit (now (start (tested c) .args .d)) ≡ true
-fit-here c =
-    let else = c .before .before .before .before in
-    sym (tested c .fit .ensures) ∙ not-false (tested c .fit .result) (else .if1 .left)
+passed : (c : tie.After-cpu-write-known) → fit (now (start (tested c) .args .d)) ≡ true
+passed c = let else = c .before .before .before .before in fit-here _ (tested c .fit .ensures) (else .if1 .left)
 
 -- the number that the write answered is its checks'
 number : (c : tie.After-cpu-write-known) → let a = start (tested c) .args in
@@ -41,11 +39,10 @@ unfolding cpuWriteAnswer cpuWriteLeaves cpuWriteDrops
 returns c =
     let test = c .before .before in
     let a = start test .args in
-    let e = sym (test .fit .ensures) ∙ not-true (test .fit .result) (c .before .if1 .taken) in
+    let e = unfit-here (a .d .now) (test .fit .ensures) (c .before .if1 .taken) in
     let own = cpuChecks (a .s) (length (a .arena .now)) (a .addr) in (
       c .refused-write .ensures ∙ sym (given-unfit (a .d .now) _ (refusedWrite (a .s)) _ e),
-      told-unfit (a .d .now) own
-          (a .arena .now) _ _ e .1,
+      told-unfit (a .d .now) own (a .arena .now) _ _ e .1,
     )
 
 returns-2 : tie.Need-returns-2
@@ -54,18 +51,17 @@ returns-2 c =
     let made = c .before .before .before .before in
     let a = start (tested made) .args in
     let w = made .cpu-write-known .ensures in
-    let e = fit-here made in
-    let t = told-refused (a .d .now) (cpuChecks (a .s) (length (a .arena .now)) (a .addr)) (a .arena .now) (cpuWriteArena (a .s)
-    (a .arena .now) (a .addr) (a .val))
-    (dropped (cpuTouched (a .s) (a .addr) (a .val)) (a .d .now)) e _ (number made) (c .if2 .taken) .1 in
-    (w .0 ∙ sym (given-fit (a .d .now) (refusedWrite (a .s)) _ e), (w .1 ∙ t .0, t .1))
+    let e = passed made in (
+      w .0 ∙ sym (given-fit (a .d .now) (refusedWrite (a .s)) _ e),
+      told-refused (a .d .now) _ (a .arena .now) _ _ e (number made, w .1) (c .if2 .taken) .1,
+    )
 
 -- where it was accepted
 abbrev made : tie.Else2 → tie.After-cpu-write-known
 made c = c .before .before .before .before
 
 drop-touched-requires : tie.Need-drop-touched-requires
-drop-touched-requires c κs = fit-here (made (c .before .before))
+drop-touched-requires c κs = passed (made (c .before .before))
 
 returns-3 : tie.Need-returns-3
 unfolding cpuWriteAnswer cpuWriteLeaves cpuWriteDrops
@@ -76,14 +72,13 @@ returns-3 c =
     let stored = m .before .before in
     let a = start (tested m) .args in
     let w = m .cpu-write-known .ensures in
-    let e = fit-here m in
-    let own = cpuChecks (a .s) (length (a .arena .now)) (a .addr) in
-    let t = told-accepted (a .d .now) own (a .arena .now) (cpuWriteArena (a .s) (a .arena .now) (a .addr) (a .val))
-    (dropped (cpuTouched (a .s) (a .addr) (a .val)) (a .d .now)) e _ (number m) (else .if2 .left) .1 in
+    let e = passed m in
     let mask = ap₂ bitOr (ap (λ (x : Written). x .changed .prg .mask) (w .0)) (stored .stored-prg .ensures)
     ∙ touched-written (a .s) (a .arena .now) (a .addr) (a .val) (sym (number m) ∙ else .if2 .left) in
-    let gone = drop .drop-touched .ensures ∙ ap (λ (x : ℕ). dropped x (a .d .now)) mask in
-    (w .0 ∙ sym (given-fit (a .d .now) (refusedWrite (a .s)) _ e), (w .1 ∙ t .0, gone ∙ t .1))
+    let gone = drop .drop-touched .ensures ∙ ap (λ (x : ℕ). dropped x (a .d .now)) mask in (
+      w .0 ∙ sym (given-fit (a .d .now) (refusedWrite (a .s)) _ e),
+      told-accepted (a .d .now) _ (a .arena .now) _ _ e (number m, w .1) (else .if2 .left) gone .1,
+    )
 
 pub cpu-write-known-spec : {M : Type 1} → statement M
 cpu-write-known-spec =
