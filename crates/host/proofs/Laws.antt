@@ -3,7 +3,8 @@ use Prim.Native.Nat.{ℕ, _^_, _<_}
 use mathlib.Core.Path.{_≡_, refl, sym, ap, subst, _∙_}
 use mathlib.Core.Bool.{Bool, true, false, cond}
 use mathlib.Core.List.{List, _∷_}
-use borrow.Author.Tests.{eq-eqb, ne-eqb}
+use native.Mathlib.Omega.{arith}
+use borrow.Author.Tests.{not-false, eq-eqb, ne-eqb, eqb-true}
 use lib.Dec.{eqb}
 use lib.ListN.{length}
 use Rattle.memory.specs.declared.layout.MemoryLayout.{MemoryLayout}
@@ -13,14 +14,14 @@ use Rattle.board_state.specs.None.{noState}
 use Rattle.board_state.specs.State.{Known}
 use Rattle.board_state.proofs.Range.{known-passes}
 use Rattle.call_refusals.specs.Refusals.{Check, firstOf, unlessRefused, stateCheck, loadChecks}
-use Rattle.call_refusals.proofs.Laws.{first-done, number-is}
+use Rattle.call_refusals.proofs.Laws.{Numbered, NoneHolds, accepted-none, first-done, number-is}
 use Rattle.call_load.specs.declared.Loaded.{Loaded}
 use Rattle.call_load.specs.Cartridge.{freshState, loadAnswer}
 use Rattle.image_write.specs.Image.{imageBytes, imageOf}
 use Rattle.image_write.specs.Writing.{imageCheck}
 use Rattle.image_read.specs.declared.reading.ReadImage.{ReadImage}
 use Rattle.image_read.specs.Reading.{readChecks, refusedRead, readImage}
-use Rattle.image_read.proofs.RoundTrip.{accepted-in-range, read-known, written-read}
+use Rattle.image_read.proofs.RoundTrip.{accepted-in-range, in-range-accepted, read-known, written-read}
 use Rattle.image_read.proofs.Accepted.{accepted}
 use Rattle.thm_machine.specs.Calls.{Held}
 use Rattle.thm_machine.specs.Start.{Loaded as Start}
@@ -37,6 +38,16 @@ state-read img e = let h = accepted-in-range img e in ap (λ r. r .state) (accep
 
 pub known-in : (img : List ℕ) → readImage img .refusal ≡ 0 → Known (stateIn img)
 known-in img e = subst Known (state-read img e) (read-known img e)
+
+-- a call that is accepted: none of its checks holds, and the image's state is known
+module _ (img : List ℕ) (own : List Check) (numbered : Numbered own) (e : firstOf (onImage img own) ≡ 0) where
+  pub none-held : NoneHolds (onImage img own)
+  none-held = accepted-none (onImage img own) (omega arith, (omega arith, numbered)) e
+
+  pub in-image : Known (stateIn img)
+  in-image =
+      let h = none-held in
+      known-in img (in-range-accepted img (eqb-true (length img) imageBytes (not-false _ (h .0))) (not-false _ (h .1 .0)))
 
 -- ---- refused by it, or on with it
 

@@ -1,38 +1,58 @@
 -- The calls with a directory: refused by the image, or on to the call on its state; and a search without tests beside a lookup.
 use Prim.Native.Nat.{ℕ, _≤_}
 use mathlib.Core.Path.{_≡_, refl, sym, ap, subst, _∙_}
-use mathlib.Core.Bool.{Bool, true, false, cond}
-use mathlib.Core.List.{List, [], _∷_}
+use mathlib.Core.Bool.{Bool, true, false, cond, not}
+use mathlib.Core.List.{List, [], _∷_, _++_}
 use native.Mathlib.Omega.{arith}
 use native.Mathlib.Decide.{ℕ-discrete}
+use borrow.Author.Needs.{needs}
 use borrow.Author.Tests.{eq-eqb, ne-eqb}
+use lib.Dec.{eqb, ltb}
 use lib.ListN.{length}
 use Rattle.memory.specs.declared.layout.MemoryLayout.{MemoryLayout}
 use Rattle.board_state.specs.declared.State.{State}
 use Rattle.board_state.specs.State.{Known}
-use Rattle.call_refusals.specs.Refusals.{Check, firstOf, unlessRefused, unlessKept, stateCheck, loadChecks}
-use Rattle.call_refusals.proofs.Laws.{refused-is, accepted-is}
+use Rattle.board_state.proofs.Range.{known-passes}
+use Rattle.call_refusals.specs.Refusals.{Check, firstOf, unlessRefused, unlessKept, stateCheck, cpuChecks, loadChecks}
+use Rattle.call_refusals.proofs.Laws.{Numbered, accepted-none, first-more, first-done, refused-is, accepted-is}
 use Rattle.call_load.specs.declared.Loaded.{Loaded}
 use Rattle.call_load.specs.Cartridge.{loadAnswer, loadArena}
 use Rattle.image_write.specs.Image.{imageBytes}
+use Rattle.image_write.specs.Writing.{imageCheck}
 use Rattle.image_read.specs.declared.reading.ReadImage.{ReadImage}
 use Rattle.image_read.specs.Reading.{readImage}
 use Rattle.image_read.proofs.RoundTrip.{read-known}
 use Rattle.thm_range.proofs.Refused.{load-refused}
 use Rattle.directory.specs.Fit.{fit}
-use Rattle.directory.specs.Calls.{wordAt, lookup}
+use Rattle.directory.specs.Drop.{dropped}
+use Rattle.directory.specs.Calls.{wordAt, refusedLookup, foundOf, lookup}
 use Rattle.directory.proofs.Laws.Found.{lookup-finds}
-use Rattle.call_blocks.specs.Blocks.{directoryCheck, withDirectory, placesCheck, loadGives, loadLeaves, loadDrops}
+use Rattle.call_blocks.specs.Blocks.{directoryCheck, withDirectory, lookupChecks, emptied, cpuTouched, cpuWriteDrops, placesCheck}
+use Rattle.call_blocks.specs.Blocks.{loadGives, loadLeaves, loadDrops}
 use Rattle.call_blocks.proofs.Laws.{load-number}
 use Rattle.host_state.specs.HostState.{Gives, unaltered}
-use Rattle.host.specs.Host.{onImage, stateIn}
-use Rattle.host.specs.Blocks.{foundWord, hostLookup, hostFind, loadBlocksChecks, hostLoadPlaces}
-use Rattle.host.proofs.Laws.{state-read, image-refuses, image-passes}
+use Rattle.host_blocks.specs.HostBlocks.{storedTouched, storedDrops}
+use Rattle.host.specs.Host.{onImage, stateIn, cpuOwn}
+use Rattle.host.specs.Blocks.{foundWord, hostLookup, hostFind, loadBlocksChecks, hostLoadPlaces, blocksOwn, hostWritePlaces}
+use Rattle.host.specs.Blocks.{hostStoredPlaces}
+use Rattle.host.proofs.Laws.{state-read, in-image, image-refuses, image-passes}
 
 -- K4: of a fit directory, the search without tests answers a lookup's word at every CPU address of the cartridge
 pub found-word : (d : List ℕ) (start : ℕ) → fit d ≡ true → 0x4800 ≤ start → hostFind d start ≡ hostLookup d start
 unfolding hostLookup hostFind
 found-word d start f s = ap foundWord (sym (lookup-finds d start f s))
+
+-- a lookup by its checks
+pub lookup-is : (d : List ℕ) (start : ℕ) → lookup d start ≡ unlessRefused (lookupChecks d start) refusedLookup (foundOf (wordAt start d))
+unfolding firstOf lookup
+lookup-is d start = go (fit d) (ltb start 0x4800)
+  where
+    go : (f a : Bool)
+        → cond (not f) (refusedLookup 2) (cond a (refusedLookup 8) (foundOf (wordAt start d)))
+        ≡ (let q = cond (not f) 2 (cond a 8 0) in cond (eqb q 0) (foundOf (wordAt start d)) (refusedLookup q))
+    go true true = refl
+    go true false = refl
+    go false a = refl
 
 -- ---- a call that reads an image to r, with what it makes of the places on a state: they are kept, or so made
 
@@ -125,3 +145,50 @@ load-blocks img arena d mapper sub flags known sizes r long e = by (ℕ-discrete
           arena-stays = λ h. rw p;
           places-after = rw i;
         }
+
+-- ---- what a call leaves of the places, by all its checks
+
+-- those of the call on a state stand behind those before it
+kept-behind : (before after : List Check) → Numbered before → (d x : List ℕ)
+    → unlessKept before d (unlessKept after d x) ≡ unlessKept (before ++ after) d x
+kept-behind before after n d x = by (ℕ-discrete (firstOf before) 0)
+  where
+    by : Dec (firstOf before ≡ 0) → unlessKept before d (unlessKept after d x) ≡ unlessKept (before ++ after) d x
+    by (yes z) = accepted-is before (λ q. d) _ z ∙ rw (first-more before after (accepted-none before n z))
+    by (no h) = refused-is before (λ q. d) _ h ∙ rw (first-done before after h, ne-eqb (firstOf before) 0 h)
+
+-- the state of an image that is accepted passes its own test
+state-passes : (img d : List ℕ) (own : List Check)
+    → firstOf (onImage img (withDirectory d (stateCheck (stateIn img) ∷ own))) ≡ firstOf (onImage img (withDirectory d own))
+unfolding firstOf
+state-passes img d own = by (ℕ-discrete (firstOf (onImage img [])) 0)
+  where
+    by : Dec (firstOf (onImage img []) ≡ 0)
+        → firstOf (onImage img (withDirectory d (stateCheck (stateIn img) ∷ own))) ≡ firstOf (onImage img (withDirectory d own))
+    by (yes z) = rw (known-passes (stateIn img) (in-image img [] tt z))
+    by (no h) =
+        first-done (onImage img []) (withDirectory d (stateCheck (stateIn img) ∷ own)) h
+        ∙ sym (first-done (onImage img []) (withDirectory d own) h)
+
+-- K7
+pub load-places : (img arena d : List ℕ) (mapper : ℕ) (sizes : MemoryLayout)
+    → hostLoadPlaces img arena d mapper sizes ≡ unlessKept (loadBlocksChecks img arena d mapper sizes) d emptied
+unfolding hostLoadPlaces loadDrops
+load-places img arena d mapper sizes =
+    kept-behind (imageCheck (length img) ∷ []) (placesCheck d ∷ loadChecks mapper sizes (length arena)) (search needs) d emptied
+
+-- K5
+pub write-places : (img arena d : List ℕ) (addr v : ℕ) → let s = stateIn img in
+    hostWritePlaces img arena d addr v ≡ unlessKept (onImage img (blocksOwn d s arena addr)) d (dropped (cpuTouched s addr v) d)
+unfolding hostWritePlaces cpuWriteDrops
+write-places img arena d addr v =
+    let s = stateIn img in
+    kept-behind (onImage img []) (withDirectory d (cpuChecks s (length arena) addr)) (search needs) d (dropped (cpuTouched s addr v) d)
+    ∙ rw (state-passes img d (cpuOwn s arena addr))
+
+-- K10
+pub stored-places : (img d : List ℕ) (offset : ℕ)
+    → hostStoredPlaces img d offset
+    ≡ unlessKept (onImage img (withDirectory d [])) d (dropped (storedTouched (stateIn img) offset) d)
+unfolding hostStoredPlaces storedDrops
+stored-places img d offset = kept-behind (onImage img []) (withDirectory d []) (search needs) d _

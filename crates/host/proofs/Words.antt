@@ -1,7 +1,7 @@
 -- H6: the low 8 bits of every answer are the number of the first check that holds, 0 where none does, and the parts of an accepted answer
 -- stand in their bits, one beside the other.
 use Prim.Native.Nat.{ℕ, _*_, _/_, _%_, _^_, _<_}
-use mathlib.Core.Path.{_≡_, refl, sym, subst, _∙_}
+use mathlib.Core.Path.{_≡_, refl, sym, ap, subst, _∙_}
 use mathlib.Core.Bool.{Bool, true, false, cond}
 use mathlib.Core.List.{List, [], _∷_}
 use native.Mathlib.Omega.{arith}
@@ -17,19 +17,24 @@ use Rattle.memory.proofs.Laws.Changes.{changed-lt}
 use Rattle.board_state.specs.declared.State.{State}
 use Rattle.board_state.specs.State.{Known}
 use Rattle.call_refusals.specs.Refusals.{Check, firstOf, unlessRefused, kindCheck, cpuChecks, loadChecks}
-use Rattle.call_refusals.proofs.Laws.{Numbered, NoneHolds, accepted-none, accepted-is}
+use Rattle.call_refusals.proofs.Laws.{accepted-is, number-is}
 use Rattle.call_cpu.specs.declared.calls.Written.{Written}
 use Rattle.call_cpu.specs.Calls.{writeRegister, cpuRead, cpuWrite}
 use Rattle.call_run.specs.Run.{clocks, made, runLimit}
 use Rattle.call_run.proofs.run.Laws.{made-most}
-use Rattle.image_write.specs.Image.{imageBytes}
 use Rattle.image_write.specs.Writing.{imageCheck}
-use Rattle.image_read.proofs.RoundTrip.{in-range-accepted}
 use Rattle.thm_range.proofs.Calls.{cpu-write-mask}
+use Rattle.directory.specs.declared.Found.{Found}
+use Rattle.directory.specs.Fit.{fit}
+use Rattle.directory.specs.Calls.{wordAt, refusedLookup, foundOf, lookup}
+use Rattle.call_blocks.specs.Blocks.{lookupChecks}
 use Rattle.host_state.specs.HostState.{Gives, unaltered, readGives, writeGives, runOwn, runGives}
 use Rattle.host_state.proofs.Laws.{word-of}
 use Rattle.host.specs.Host.{onImage, stateIn, hostLoad, hostReset, cpuOwn, hostRead, hostWrite, hostRun}
-use Rattle.host.proofs.Laws.{known-in}
+use Rattle.host.specs.Blocks.{foundWord, hostLookup, hostFind, loadBlocksChecks, hostLoadBlocks, blocksOwn, hostWriteBlocks}
+use Rattle.host.proofs.Laws.{none-held, in-image}
+use Rattle.host.proofs.WithDirectory.{lookup-is}
+use Rattle.host.proofs.Refused.{onBoth, both-first, write-blocks-as-write}
 
 -- ---- H6: the refusal, in bits 0..7
 
@@ -84,19 +89,55 @@ unfolding hostRun
 run-number img samples n =
     low-bits _ img samples (runGives (stateIn img) samples n) (search needs) (omega arith)
 
--- ---- an accepted call: its image's state is known, and its word is what the call on that state gives
+-- a registering's word, and that of a store of the host's own, is the number alone: `register-refused`, `stored-refused`
+pub load-blocks-number : (img arena d : List ℕ) (mapper sub flags known : ℕ) (sizes : MemoryLayout)
+    → hostLoadBlocks img arena d mapper sub flags known sizes .word % 256 ≡ firstOf (loadBlocksChecks img arena d mapper sizes)
+unfolding hostLoadBlocks
+load-blocks-number img arena d mapper sub flags known sizes = low-bits _ _ _ _ (search needs) refl
 
-module _ (img : List ℕ) (own : List Check) (numbered : Numbered own) (e : firstOf (onImage img own) ≡ 0) where
-  none-held : NoneHolds (onImage img own)
-  none-held = accepted-none (onImage img own) (omega arith, (omega arith, numbered)) e
+pub write-blocks-number : (img arena d : List ℕ) (addr v : ℕ)
+    → hostWriteBlocks img arena d addr v .word % 256 ≡ firstOf (onBoth img d (cpuOwn (stateIn img) arena addr))
+unfolding hostWriteBlocks
+write-blocks-number img arena d addr v =
+    low-bits _ img arena (writeGives (stateIn img) arena addr v) (search needs)
+    (omega (arith, cpu-write-mask (stateIn img) arena addr v)) ∙ both-first img d (cpuOwn (stateIn img) arena addr)
 
-  in-image : Known (stateIn img)
-  in-image =
-      let h = none-held in
-      known-in img (in-range-accepted img (eqb-true (length img) imageBytes (not-false _ (h .0))) (not-false _ (h .1 .0)))
+-- ---- H6: a lookup's length in bits 8..31 and its number in bits 32..63; a find's too, which is never refused
 
-  word-is : (lent : List ℕ) (g : Gives) → unlessRefused (onImage img own) (unaltered img lent) g .word ≡ g .word
-  word-is lent g = word-of (accepted-is (onImage img own) (unaltered img lent) g e)
+pub record Parts (word : ℕ) (f : Found) : Type 0 where
+  pub refusal : word % 2 ^ 8 ≡ f .refusal
+  pub len : word / 2 ^ 8 % 2 ^ 24 ≡ f .len
+  pub number : word / 2 ^ 32 ≡ f .number
+
+abbrev Narrow : Found → Type 0
+Narrow f = (f .refusal < 2 ^ 8) × (f .len < 2 ^ 24)
+
+parts : (f : Found) → Narrow f → Parts (foundWord f) f
+parts f h =
+    record { refusal = omega (arith, h .0, h .1); len = omega (arith, h .0, h .1); number = omega (arith, h .0, h .1) }
+
+pub find-parts : (d : List ℕ) (start : ℕ) → Parts (hostFind d start) (foundOf (wordAt start d))
+unfolding hostFind
+find-parts d start = parts (foundOf (wordAt start d)) (omega arith, omega arith)
+
+pub lookup-parts : (d : List ℕ) (start : ℕ) → Parts (hostLookup d start) (lookup d start)
+unfolding hostLookup
+lookup-parts d start =
+    let cs = lookupChecks d start in
+    parts (lookup d start) (subst Narrow (sym (lookup-is d start)) (cond-holds Narrow (eqb (firstOf cs) 0) _ _ (omega arith, omega arith)
+    (first-small cs (search needs), omega arith)))
+
+pub lookup-number : (d : List ℕ) (start : ℕ) → hostLookup d start % 256 ≡ firstOf (lookupChecks d start)
+lookup-number d start =
+    let refusal : Found → ℕ = λ f. f .refusal in
+    lookup-parts d start .refusal ∙ ap refusal (lookup-is d start)
+    ∙ number-is (lookupChecks d start) refusedLookup (foundOf (wordAt start d)) refusal refl (λ q. refl)
+
+-- ---- an accepted call: its word is what the call on its image's state gives
+
+word-is : (img : List ℕ) (own : List Check) → firstOf (onImage img own) ≡ 0 → (lent : List ℕ) (g : Gives)
+    → unlessRefused (onImage img own) (unaltered img lent) g .word ≡ g .word
+word-is img own e lent g = word-of (accepted-is (onImage img own) (unaltered img lent) g e)
 
 -- ---- H6: a read's byte in bits 8..15
 
@@ -104,7 +145,7 @@ pub read-byte : (img arena : List ℕ) (addr : ℕ) → firstOf (onImage img (cp
     → hostRead img arena addr .word / 2 ^ 8 ≡ cpuRead (stateIn img) arena addr .byte
 unfolding hostRead
 read-byte img arena addr e =
-    omega (arith, word-is img (cpuOwn (stateIn img) arena addr) (search needs) e arena (readGives (stateIn img) arena addr))
+    omega (arith, word-is img (cpuOwn (stateIn img) arena addr) e arena (readGives (stateIn img) arena addr))
 
 -- ---- H6: a write's CHR mask in bits 8..23 and its PRG mask in bits 24..63
 
@@ -126,10 +167,19 @@ pub write-masks : (img arena : List ℕ) (addr v : ℕ) → firstOf (onImage img
 unfolding hostWrite
 write-masks img arena addr v e =
     let s = stateIn img in let own = cpuOwn s arena addr in
-    let w = word-is img own (search needs) e arena (writeGives s arena addr v) in
+    let w = word-is img own e arena (writeGives s arena addr v) in
     let low = cpu-write-mask s arena addr v in
     let small = chr-small s arena addr v (in-image img own (search needs) e) in
     record { chr = omega (arith, w, low, small); prg = omega (arith, w, low, small) }
+
+-- K7: with a directory the same, where that is fit, as it is where the call is accepted
+pub write-blocks-masks : (img arena d : List ℕ) (addr v : ℕ) → firstOf (onImage img (blocksOwn d (stateIn img) arena addr)) ≡ 0
+    → Masks (hostWriteBlocks img arena d addr v .word) (cpuWrite (stateIn img) arena addr v)
+unfolding firstOf
+write-blocks-masks img arena d addr v e =
+    let s = stateIn img in
+    let f = not-false (fit d) (none-held img (blocksOwn d s arena addr) (search needs) e .1 .1 .0) in
+    rw (write-blocks-as-write img arena d addr v f) (write-masks img arena addr v (rw f at e))
 
 -- ---- H6: a run's count of samples in bits 8..31 and its rise in bits 32..63
 
@@ -142,7 +192,7 @@ pub run-counts : (img samples : List ℕ) (n : ℕ) → firstOf (onImage img (ru
 unfolding hostRun made
 run-counts img samples n e =
     let s = stateIn img in let own = runOwn s samples n in
-    let w = word-is img own (search needs) e samples (runGives s samples n) in
+    let w = word-is img own e samples (runGives s samples n) in
     let short = ltb-false runLimit n (none-held img own (search needs) e .1 .1 .0) in
     let few = made-most n s (in-image img own (search needs) e .range .chip .audio .counter) short in
     record { samples = omega (arith, w, few); rises = omega (arith, w, few) }

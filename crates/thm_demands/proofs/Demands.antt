@@ -31,6 +31,8 @@ use Rattle.image_read.specs.Reading.{readImage}
 use Rattle.image_read.proofs.RoundTrip.{read-written, written-read}
 use Rattle.host_state.specs.HostState.{unaltered, runOwn}
 use Rattle.host.specs.Host.{onImage, stateIn, cpuOwn, hostLoad, hostReset, hostRead, hostWrite, hostRun}
+use Rattle.host.specs.Blocks.{hostLookup, loadBlocksChecks, hostLoadBlocks, hostLoadPlaces, blocksOwn, hostWriteBlocks, hostWritePlaces}
+use Rattle.host.specs.Blocks.{hostStored, hostStoredPlaces}
 use Rattle.host.proofs.Refused as Host
 use Rattle.call_preview.specs.Preview.{preview}
 use Rattle.thm_machine.specs.Calls.{Held, Other, cpuRead, cpuWrite, byte, changed, CallTyped}
@@ -44,7 +46,9 @@ use Rattle.thm_range.proofs.Lists.{always-fit, never-2-or-7}
 use Rattle.thm_range.proofs.Refused.{other-refused}
 use Rattle.idle_runs.specs.Idle.{Still, Least}
 use Rattle.thm_idle.proofs.Idle.{idle-is-still, counted-is-least}
-use Rattle.call_blocks.specs.Blocks.{emptied}
+use Rattle.directory.specs.Fit.{fit}
+use Rattle.directory.specs.Calls.{registerRefusal, registered}
+use Rattle.call_blocks.specs.Blocks.{directoryCheck, registerChecks, lookupChecks, emptied}
 use Rattle.handed.specs.Handed as Blocks
 use Rattle.thm_blocks.specs.Calls.{HeldBlocks, BlockCall, base, NumberTyped}
 use Rattle.thm_blocks.specs.Board.{blockBoard}
@@ -92,6 +96,26 @@ pub demand-1-on-image : (img lent : List ℕ) (addr v kind n : ℕ) → let s = 
     → hostRun img lent n ≡ unaltered img lent (firstOf (onImage img (runOwn s lent n))))
 demand-1-on-image img lent addr v kind n =
     (Host.reset-refused img kind, Host.read-refused img lent addr, Host.write-refused img lent addr v, Host.run-refused img lent n)
+
+-- the same of those with a directory, whose places stay too; N2 of image and of directory are one number (`both-first`)
+pub demand-1-directory : (d : List ℕ) (start len number : ℕ) → let rs = registerChecks d start len in let ls = lookupChecks d start in
+    ((firstOf rs ≡ 0 → ⊥) → (registerRefusal d start len ≡ firstOf rs) × (registered d start len number ≡ d))
+    × ((firstOf ls ≡ 0 → ⊥) → hostLookup d start ≡ firstOf ls)
+demand-1-directory d start len number = (Host.register-refused d start len number, Host.lookup-refused d start)
+
+pub demand-1-load-blocks : (img arena d : List ℕ) (mapper sub flags known : ℕ) (sizes : MemoryLayout)
+    → let cs = loadBlocksChecks img arena d mapper sizes in
+    (firstOf cs ≡ 0 → ⊥)
+    → (hostLoadBlocks img arena d mapper sub flags known sizes ≡ unaltered img arena (firstOf cs))
+    × (hostLoadPlaces img arena d mapper sizes ≡ d)
+demand-1-load-blocks = Host.load-blocks-refused
+
+pub demand-1-blocks : (img arena d : List ℕ) (addr v offset : ℕ)
+    → let ws = onImage img (blocksOwn d (stateIn img) arena addr) in let ss = onImage img (directoryCheck d ∷ []) in
+    ((firstOf ws ≡ 0 → ⊥)
+    → (hostWriteBlocks img arena d addr v ≡ unaltered img arena (firstOf ws)) × (hostWritePlaces img arena d addr v ≡ d))
+    × ((firstOf ss ≡ 0 → ⊥) → (hostStored img d ≡ firstOf ss) × (hostStoredPlaces img d offset ≡ d))
+demand-1-blocks img arena d addr v offset = (Host.write-blocks-refused img arena d addr v, Host.stored-refused img d offset)
 
 -- ---- D2.1, what of it is a theorem: from every load, after every list, the state is known and the arena fits it, so N2 and N7 never come
 
@@ -204,6 +228,16 @@ blocks-spared = spared
 pub blocks-dropped : (b : Other) (h : HeldBlocks) → Typed h → (a n k : ℕ) → HandsOut h a n k → accepted (base b) h ≡ true → Cause b h a n
     → word a (afterAll (other (base b) ∷ []) h) ≡ 0
 blocks-dropped = cause-drops
+
+-- K7: word, image and arena of the C calls are those without a directory, where it is fit; of a load, where it has 256 places
+
+pub blocks-load-as-without : (img arena d : List ℕ) (mapper sub flags known : ℕ) (sizes : MemoryLayout) → length d ≡ 256
+    → hostLoadBlocks img arena d mapper sub flags known sizes ≡ hostLoad img arena mapper sub flags known sizes
+blocks-load-as-without = Host.load-blocks-as-load
+
+pub blocks-write-as-without : (img arena d : List ℕ) (addr v : ℕ) → fit d ≡ true
+    → hostWriteBlocks img arena d addr v ≡ hostWrite img arena addr v
+blocks-write-as-without = Host.write-blocks-as-write
 
 -- K7: demand 3 of lists with a directory, its places compared too
 
