@@ -2,6 +2,7 @@
 //! The archive and the unchanged Rust on the same work, in one process: every answer and sample is compared first, then both are timed.
 
 mod archive;
+mod blocks;
 #[allow(dead_code)]
 #[path = "../../../oracle/host/src/functions.rs"]
 mod functions;
@@ -206,4 +207,5 @@ fn main() {
     others(three_runs);
     idles();
     previews();
+    blocks::blocks();
 }
