@@ -66,9 +66,13 @@ fn written(ours: &mut Archive, addr: u16, val: u8) -> (f64, f64) {
     ours.arena = arena;
     assert_eq!((without(ours), ours.image, ours.arena.clone()), left, "{addr:04X}");
     assert_eq!(ours.directory, held, "{addr:04X}");
-    let times = (time(|| with(ours)), time(|| without(ours)));
+    let times = pair(ours, with, without);
     ours.image = image;
     times
+}
+
+fn pair(ours: &mut Archive, call: impl Fn(&mut Archive) -> u64, beside: impl Fn(&mut Archive) -> u64) -> (f64, f64) {
+    (time(|| call(ours)), time(|| beside(ours)))
 }
 
 /// K: each call's time, that of the call beside it, their ratio and its goal; the last line says which rows miss theirs.
@@ -77,7 +81,7 @@ pub fn blocks() {
     let mut missed = Vec::new();
     for (order, starts) in [("ascending", ascending()), ("shuffled", shuffled())] {
         println!("{:>30} {:>8} {:>8} {:>8} {:>8}", format!("registered {order}"), "time", "beside", "ratio", "goal");
-        let mut row = |name: &str, a: f64, b: f64, goal: Option<f64>| {
+        let mut row = |name: &str, (a, b): (f64, f64), goal: Option<f64>| {
             let at_most = goal.map_or(String::new(), |goal| format!("{goal:.1}"));
             println!("{name:>30} {a:>8.0} {b:>8.0} {:>8.2} {at_most:>8}", a / b);
             if goal.is_some_and(|goal| a / b > goal) {
@@ -87,17 +91,16 @@ pub fn blocks() {
         let (mut ours, _) = sides(8);
         hold(&mut ours, &starts);
         let last = (ours.directory[255] >> 48) as u16;
-        let read = time(|| ours.read(black_box(0x8000)));
-        row("find, in the last place", time(|| ours.find(black_box(last))), read, Some(FIND));
-        row("find, not held", time(|| ours.find(black_box(NOT_HELD))), read, Some(FIND));
-        row("lookup, in the last place", time(|| ours.lookup(black_box(last))), read, None);
+        let read = |ours: &mut Archive| ours.read(black_box(0x8000));
+        row("find, in the last place", pair(&mut ours, |ours| ours.find(black_box(last)), read), Some(FIND));
+        row("find, not held", pair(&mut ours, |ours| ours.find(black_box(NOT_HELD)), read), Some(FIND));
+        row("lookup, in the last place", pair(&mut ours, |ours| ours.lookup(black_box(last)), read), None);
         let held = ours.directory;
-        let register = time(|| ours.register(black_box(last), black_box(LENGTH.into()), number(last)));
-        assert_eq!(ours.directory, held, "a block registered again");
-        row("register, a held start", register, read, None);
+        let register = |ours: &mut Archive| ours.register(black_box(last), black_box(LENGTH.into()), number(last));
+        assert_eq!((register(&mut ours), ours.directory), (0, held), "a block registered again");
+        row("register, a held start", pair(&mut ours, register, read), None);
         for (name, addr, val) in WRITES {
-            let (with, without) = written(&mut ours, addr, val);
-            row(name, with, without, Some(WRITE));
+            row(name, written(&mut ours, addr, val), Some(WRITE));
         }
     }
     match missed.as_slice() {
