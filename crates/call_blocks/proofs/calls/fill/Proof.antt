@@ -4,7 +4,7 @@ use mathlib.Core.Bool.{true}
 use borrow.Author.Needs.{needs}
 use denote.Ref.{now}
 use Rattle.directory.specs.Fit.{fit}
-use Rattle.call_blocks.specs.Blocks.{emptied, fillLeaves, fillDrops}
+use Rattle.call_blocks.specs.Blocks.{fillLeaves, fillDrops}
 use Rattle.call_blocks.proofs.Laws.{unfit-here, fit-here, told-unfit, told-refused, told-accepted, all-gone}
 use Rattle.call_blocks.proofs.calls.fill.Statement.{statement}
 use Rattle.call_blocks.proofs.calls.fill.Tie as tie
@@ -20,7 +20,7 @@ returns : tie.Need-returns
 unfolding fillLeaves fillDrops
 returns c =
     let a = start (c .before) .args in
-    told-unfit (a .d .now) _ (a .arena .now) _ emptied (unfit-here _ (c .before .fit .ensures) (c .if1 .taken))
+    told-unfit (a .d .now) _ (a .arena .now) _ _ (unfit-here _ (c .before .fit .ensures) (c .if1 .taken))
 
 passed : (c : tie.After-fill) → fit (now (start (tested c) .args .d)) ≡ true
 passed c = fit-here _ (tested c .fit .ensures) (c .before .before .if1 .left)
@@ -29,14 +29,14 @@ returns-2 : tie.Need-returns-2
 unfolding fillLeaves fillDrops
 returns-2 c =
     let m = c .before .before .before in let a = start (tested m) .args in
-    told-refused (a .d .now) _ (a .arena .now) _ emptied (passed m) (m .fill .ensures) (c .if2 .taken)
+    told-refused (a .d .now) _ (a .arena .now) _ _ (passed m) (m .fill .ensures) (c .if2 .taken)
 
 returns-3 : tie.Need-returns-3
 unfolding fillLeaves fillDrops
 returns-3 c =
     let gone = c .before .before in let else = gone .before .before in
     let m = else .before .before .before in let a = start (tested m) .args in
-    told-accepted (a .d .now) _ (a .arena .now) _ emptied (passed m) (m .fill .ensures) (else .if2 .left)
+    told-accepted (a .d .now) _ (a .arena .now) _ _ (passed m) (m .fill .ensures) (else .if2 .left)
     (all-gone _ (passed m) (gone .empty .ensures))
 
 pub fill-spec : {M : Type 1} → statement M
