@@ -9,4 +9,5 @@ pub mod Drop
 pub mod Refused
 pub mod Registered
 pub mod Dropped
+pub mod InOrder
 pub mod Found

@@ -1,4 +1,5 @@
--- K2: directories that are fit by their order: starts ascend, and free places are behind them. Registering and dropping keep this order.
+-- K2: directories that are fit by their order: starts ascend, and free places are behind them. Registering and dropping keep
+-- this order (`registered-ordered`, `dropped-ordered`).
 use Prim.Native.Nat.{ℕ}
 use mathlib.Core.Bool.{Bool, true, cond, _&&_}
 use mathlib.Core.List.{List, [], _∷_}

@@ -22,7 +22,7 @@ use Rattle.directory.proofs.Laws.Sound.{holds-other, holds-free, cons-s
 
 -- ---- an ordered directory is fit
 
-free-none : (a : ℕ) (d : List ℕ) → allFree d ≡ true → any (holds a) d ≡ false
+pub free-none : (a : ℕ) (d : List ℕ) → allFree d ≡ true → any (holds a) d ≡ false
 unfolding allFree any
 free-none a [] e = refl
 free-none a (w ∷ d) e =
@@ -46,7 +46,7 @@ rises-says s w e =
     }
 
 -- no start up to s is held behind s
-ordered-above : (s a : ℕ) (d : List ℕ) → a ≤ s → ordered s d ≡ true → any (holds a) d ≡ false
+pub ordered-above : (s a : ℕ) (d : List ℕ) → a ≤ s → ordered s d ≡ true → any (holds a) d ≡ false
 unfolding ordered any
 ordered-above s a [] h e = refl
 ordered-above s a (w ∷ d) h e = by (λ b. ordered-above b a d) (ℕ-discrete w 0)
