@@ -8,6 +8,7 @@ mod blocks;
 mod loads;
 mod memory;
 mod previews;
+mod protection;
 mod reads;
 mod runs;
 
@@ -30,6 +31,8 @@ struct View {
     chip: Namco163,
     layout: Layout,
     used: usize,
+    /// L19: of the new edition.
+    f800_protects: bool,
     prg: [Page; 64],
     chr: [Page; 16],
     arena: Vec<u8>,
@@ -44,6 +47,7 @@ impl View {
             chip: session.chip.clone(),
             layout: session.layout(),
             used: *session.memory.raw_battery_ext_len(),
+            f800_protects: session.f800_protects,
             prg: *session.memory.prg_pages(),
             chr: *session.memory.chr_pages(),
             arena: session.arena().into(),
@@ -152,9 +156,10 @@ impl Counter<'_> {
 type Classes = fn() -> Vec<String>;
 type Observe = fn(&Played, &mut Counter);
 
-const AREAS: [(Classes, Observe); 7] = [
+const AREAS: [(Classes, Observe); 8] = [
     (loads::classes, loads::observe),
     (banking::classes, banking::observe),
+    (protection::classes, protection::observe),
     (previews::classes, previews::observe),
     (reads::classes, reads::observe),
     (runs::classes, runs::observe),

@@ -1,17 +1,21 @@
 // SPDX-License-Identifier: MIT OR Apache-2.0
-//! Random sessions in the replay program's language. A seed gives the same calls everywhere.
+//! Random sessions in the replay program's language. A seed gives the same calls everywhere. With the options drawn, about half of the loads
+//! are of the new edition (L19), images have both lengths, and F800 is written more often; without, nothing of that is drawn, and a seed
+//! gives the calls that it gave before there were options. The list that is recorded in the repository is one of the latter.
 
 mod actions;
 pub mod loads;
 
-use crate::{player::Player, rng::Rng, session::Session, text::Call};
-use actions::{ACTIONS, Action, weighted};
+use crate::{image, layout::Load, player::Player, rng::Rng, session::Session, text::Call};
+use actions::{ACTIONS, Action, OPTION_ACTIONS, weighted};
 use std::fmt::Write;
 use tetanes::m019_namco163::Board;
 
 /// Calls and the Rust's answers to them, in order.
 pub struct Recorded {
     pub seed: u64,
+    /// Whether options were drawn.
+    pub options: bool,
     pub calls: Vec<Call>,
     pub answers: Vec<String>,
 }
@@ -19,7 +23,8 @@ pub struct Recorded {
 impl Recorded {
     /// The calls file.
     pub fn calls_text(&self) -> String {
-        let mut text = format!("# oracle generate: seed {}, {} calls\n", self.seed, self.calls.len());
+        let options = if self.options { ", options" } else { "" };
+        let mut text = format!("# oracle generate: seed {}, {} calls{options}\n", self.seed, self.calls.len());
         for call in &self.calls {
             let _ = writeln!(text, "{call}");
         }
@@ -32,8 +37,8 @@ impl Recorded {
     }
 }
 
-pub fn generate(seed: u64, calls: usize) -> Recorded {
-    let recorded = Recorded { seed, calls: Vec::new(), answers: Vec::new() };
+pub fn generate(seed: u64, calls: usize, options: bool) -> Recorded {
+    let recorded = Recorded { seed, options, calls: Vec::new(), answers: Vec::new() };
     let mut generator = Generator { rng: Rng::new(seed), player: Player::default(), recorded, body_end: 0 };
     while generator.recorded.calls.len() < calls {
         generator.session(calls);
@@ -77,13 +82,24 @@ impl Generator {
             let action = self.action(&favourites);
             action(self);
         }
-        for call in [Call::Directory, Call::Image, Call::Arena].into_iter().take(end - self.recorded.calls.len()) {
+        let image = self.whole_image();
+        for call in [Call::Directory, image, Call::Arena].into_iter().take(end - self.recorded.calls.len()) {
             self.record(call);
         }
     }
 
-    /// Half of a session goes to two actions, so that states get deep; the rest to all of them.
+    /// An `image` that is accepted.
+    fn whole_image(&self) -> Call {
+        let option = self.player.session.as_ref().is_some_and(|session| session.f800_protects);
+        Call::Image(option.then_some(image::OPTIONS_LEN as u64))
+    }
+
+    /// Half of a session goes to two actions, so that states get deep; the rest to all of them. Where options are drawn, one action in
+    /// eight is about them.
     fn action(&mut self, favourites: &[Action]) -> Action {
+        if self.recorded.options && self.rng.once_in(8) {
+            return self.rng.pick(OPTION_ACTIONS);
+        }
         match self.rng.below(8) {
             0..4 => self.rng.pick(favourites),
             4..6 => weighted(&mut self.rng),
@@ -111,7 +127,7 @@ impl Generator {
     fn before_any_load(&mut self) {
         self.say(Call::Sram);
         let refused = loads::refused(&mut self.rng);
-        self.say(Call::Load(refused));
+        self.say_load(refused);
         self.say(Call::Run { clocks: 15, room: 1 });
         self.say(Call::Preview(0x8000, 0xE1));
         self.say(Call::Register { start: 0x6000, length: 0, number: 1 });
@@ -119,13 +135,19 @@ impl Generator {
         self.say(Call::Directory);
     }
 
+    /// A load, where options are drawn in either edition.
+    fn say_load(&mut self, load: Load) {
+        let load = if self.recorded.options { loads::in_an_edition(&mut self.rng, load) } else { load };
+        self.say(Call::Load(load));
+    }
+
     fn load(&mut self) {
         if self.rng.once_in(6) {
             let refused = loads::refused(&mut self.rng);
-            self.say(Call::Load(refused));
+            self.say_load(refused);
         }
         let accepted = loads::accepted(&mut self.rng);
-        self.say(Call::Load(accepted));
+        self.say_load(accepted);
         if self.player.session.is_some() {
             actions::mark(self);
         }

@@ -1,6 +1,6 @@
 // SPDX-License-Identifier: MIT OR Apache-2.0
-//! The host's six calls on an image, an arena and sample bytes, by the Rust: H4 to H8, and N20's rows of a C host; in `blocks` those with a
-//! directory.
+//! The host's seven calls on an image, an arena and sample bytes, by the Rust: H4 to H10, and N20's rows of a C host; in `blocks` those
+//! with a directory.
 
 mod blocks;
 
@@ -8,7 +8,7 @@ pub use blocks::{BlockCall, block_word};
 
 use crate::{
     directory::Directory,
-    image::{self, LEN},
+    image::{self, LENGTHS},
     layout::Load,
     refusal::Refusal,
     session::{Ran, Session, Written},
@@ -18,7 +18,9 @@ use std::mem;
 /// A call's numbers. What is lent stands in `Host`.
 #[derive(Debug, Clone, Copy, PartialEq, Eq)]
 pub enum HostCall {
+    /// Without an option, whatever is named.
     Load(Load),
+    LoadOptions(Load),
     Read(u16),
     Write(u16, u8),
     Preview(u16, u8),
@@ -38,9 +40,16 @@ pub struct Host {
 }
 
 impl Host {
-    /// Lends a state, in range, with its arena.
+    /// Lends a state, in range, with its arena, by the shortest image that can hold it.
     pub fn new(session: Session) -> Self {
-        Self { image: image::encode(&session).into(), session, unread: None, samples: Vec::new(), directory: Directory::default() }
+        let len = image::lengths(&session)[0];
+        Self::of_length(session, len)
+    }
+
+    /// The same by an image of a length that can hold it.
+    pub fn of_length(session: Session, image_len: usize) -> Self {
+        let image = image::of_length(&session, image_len);
+        Self { image, session, unread: None, samples: Vec::new(), directory: Directory::default() }
     }
 
     pub fn image(&self) -> &[u8] {
@@ -72,10 +81,13 @@ impl Host {
         }
     }
 
-    /// Changes state and arena by something that is no call of a host's, and lends what comes.
+    /// Changes state and arena by something that is no call of a host's, and lends what comes: by an image of as many bytes, where these
+    /// can hold it.
     pub fn edit(&mut self, change: impl FnOnce(&mut Session)) {
         change(&mut self.session);
-        self.image = image::encode(&self.session).into();
+        let lengths = image::lengths(&self.session);
+        let len = if lengths.contains(&self.image.len()) { self.image.len() } else { lengths[0] };
+        self.image = image::of_length(&self.session, len);
         self.unread = None;
     }
 
@@ -85,9 +97,13 @@ impl Host {
     }
 
     fn accepted(&mut self, call: HostCall) -> Result<u64, Refusal> {
-        Refusal::ImageLength.when(self.image.len() != LEN)?;
+        self.refuse_length()?;
         let word = match call {
-            HostCall::Load(load) => self.load(&load),
+            HostCall::Load(load) => self.load(&Load { f800_protects: 0, ..load }),
+            HostCall::LoadOptions(load) => {
+                self.refuse_option(&load)?;
+                self.load(&load)
+            }
             HostCall::Read(addr) => self.state()?.read(addr).map(read_word),
             HostCall::Write(addr, val) => self.state()?.write(addr, val).map(write_word),
             // L18, H4: the word alone; no image is written.
@@ -99,8 +115,19 @@ impl Host {
         Ok(word)
     }
 
+    /// H10: at the length that was lent.
     fn write_image(&mut self) {
-        self.image.copy_from_slice(&image::encode(&self.session));
+        image::write(&self.session, &mut self.image);
+    }
+
+    /// N1 of every call with an image.
+    fn refuse_length(&self) -> Result<(), Refusal> {
+        Refusal::ImageLength.when(!LENGTHS.contains(&self.image.len()))
+    }
+
+    /// N1 of a load that asks for an option.
+    fn refuse_option(&self, load: &Load) -> Result<(), Refusal> {
+        Refusal::ImageLength.when(!image::holds(self.image.len(), load.has_option()))
     }
 
     fn state(&mut self) -> Result<&mut Session, Refusal> {

@@ -1,5 +1,5 @@
 // SPDX-License-Identifier: MIT OR Apache-2.0
-//! The image of 307 bytes, by H1.
+//! The image, by H1 and H9: 307 bytes, or 308 with a byte of options.
 
 use crate::{
     directory::Directory,
@@ -16,6 +16,16 @@ use tetanes::{
 };
 
 pub const LEN: usize = 307;
+/// H9: with a byte of options.
+pub const OPTIONS_LEN: usize = 308;
+pub const LENGTHS: [usize; 2] = [LEN, OPTIONS_LEN];
+/// H9: the one option.
+pub const F800_PROTECTS: u8 = 0x80;
+
+/// N1: whether so many bytes can be an image, where there is an option to be written or none.
+pub fn holds(len: usize, option: bool) -> bool {
+    len == OPTIONS_LEN || (len == LEN && !option)
+}
 
 /// Packs numbers of given widths, most significant bit first.
 struct Packer {
@@ -44,7 +54,33 @@ impl Packer {
     }
 }
 
-/// The image of a state in range.
+/// Writes the image of a state in range into bytes that can hold it.
+pub fn write(session: &Session, buffer: &mut [u8]) {
+    assert!(holds(buffer.len(), session.f800_protects), "{} bytes cannot hold this state", buffer.len());
+    buffer[..LEN].copy_from_slice(&encode(session));
+    if let Some(options) = buffer.get_mut(LEN) {
+        *options = self::options(session);
+    }
+}
+
+/// The image of that many bytes.
+pub fn of_length(session: &Session, len: usize) -> Vec<u8> {
+    let mut bytes = vec![0; len];
+    write(session, &mut bytes);
+    bytes
+}
+
+/// The lengths that can hold a state.
+pub fn lengths(session: &Session) -> &'static [usize] {
+    if session.f800_protects { &LENGTHS[1..] } else { &LENGTHS }
+}
+
+/// H9: byte 307.
+fn options(session: &Session) -> u8 {
+    if session.f800_protects { F800_PROTECTS } else { 0 }
+}
+
+/// The first 307 bytes of the image of a state in range.
 pub fn encode(session: &Session) -> [u8; LEN] {
     let mut packer = Packer { bytes: [0; LEN], bit: 0 };
     put_chip(&mut packer, &session.chip);
@@ -137,15 +173,16 @@ impl Unpacker<'_> {
     }
 }
 
-/// Image reading, refused by N1 and N2: the state of an image, with an arena of no bytes.
+/// Image reading, refused by N1 and N2: the state of an image, with an arena of no bytes. H9: 307 bytes have no option.
 pub fn decode(bytes: &[u8]) -> Result<Session, Refusal> {
-    Refusal::ImageLength.when(bytes.len() != LEN)?;
+    Refusal::ImageLength.when(!LENGTHS.contains(&bytes.len()))?;
+    let options = bytes.get(LEN).copied().unwrap_or(0);
     let mut unpacker = Unpacker { bytes, bit: 0 };
     let chip = take_chip(&mut unpacker)?;
     let memory = take_memory(&mut unpacker);
     assert_eq!(unpacker.bit, LEN * 8);
-    Refusal::OutOfRange.when(!in_range(&chip, &memory))?;
-    Ok(Session { chip, memory, directory: Directory::default() })
+    Refusal::OutOfRange.when(!in_range(&chip, &memory) || options & !F800_PROTECTS != 0)?;
+    Ok(Session { chip, memory, f800_protects: options == F800_PROTECTS, directory: Directory::default() })
 }
 
 /// Fields in the image's order, which is the order in which they are written here. A mirroring above 4 has no number in the Rust.

@@ -27,9 +27,16 @@ pub struct Load {
     pub chr: u64,
     pub chr_ram: u64,
     pub ciram: u64,
+    /// L19: the new edition.
+    pub f800_protects: u64,
 }
 
 impl Load {
+    /// N1: whether the load asks for an option.
+    pub fn has_option(&self) -> bool {
+        self.f800_protects != 0
+    }
+
     /// Each size beside its limit.
     pub fn sizes_mut(&mut self) -> [(&mut u64, u64); 5] {
         [

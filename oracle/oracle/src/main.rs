@@ -18,7 +18,7 @@ use std::{
 
 const USAGE: &str = "usage:
   oracle self-test
-  oracle generate --seed S --calls N --out CALLS --answers ANSWERS
+  oracle generate [--options] --seed S --calls N --out CALLS --answers ANSWERS
   oracle answer < CALLS > ANSWERS
   oracle check CALLS ANSWERS
   oracle recut --seed S < CALLS > CALLS2";
@@ -31,7 +31,8 @@ fn main() -> ExitCode {
     let words: Vec<&str> = arguments.iter().map(String::as_str).collect();
     let result = match words.as_slice() {
         ["self-test"] => Ok(selftest::run()),
-        ["generate", "--seed", seed, "--calls", calls, "--out", out, "--answers", answers] => record(seed, calls, out, answers),
+        ["generate", "--options", rest @ ..] => record(rest, true),
+        ["generate", rest @ ..] => record(rest, false),
         ["answer"] => answer(),
         ["check", calls, answers] => check(calls, answers),
         ["recut", "--seed", seed] => cut(seed),
@@ -57,8 +58,9 @@ fn number<T: FromStr>(what: &str, word: &str) -> Result<T, String> {
     word.parse().map_err(|_| format!("{what} is not a number: {word}"))
 }
 
-fn record(seed: &str, calls: &str, out: &str, answers: &str) -> Result<bool, String> {
-    let recorded = generate(number("the seed", seed)?, number("the number of calls", calls)?);
+fn record(words: &[&str], options: bool) -> Result<bool, String> {
+    let ["--seed", seed, "--calls", calls, "--out", out, "--answers", answers] = words else { return Err(USAGE.into()) };
+    let recorded = generate(number("the seed", seed)?, number("the number of calls", calls)?, options);
     for (path, text) in [(out, recorded.calls_text()), (answers, recorded.answers_text())] {
         fs::write(path, text).map_err(|error| format!("{path}: {error}"))?;
     }

@@ -70,8 +70,8 @@ fn answer(session: &mut Session, call: &Call) -> Result<String, Refusal> {
         Call::ResetHard => session.reset(1).map(ok),
         Call::SyncBattery => session.sync_battery().map(ok),
         Call::RestoreBattery => session.restore_battery().map(ok),
-        Call::Image => {
-            let mut buffer = [0; image::LEN];
+        Call::Image(length) => {
+            let mut buffer = vec![0; length.map_or(image::LEN, |length| length as usize)];
             session.image(&mut buffer)?;
             Ok(format!("ok {}", Hex(&buffer)))
         }

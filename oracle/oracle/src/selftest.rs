@@ -14,9 +14,10 @@ use checks::{Check, Checks};
 use std::panic::{self, AssertUnwindSafe};
 
 /// Parts besides the twelve cases and the edge results.
-const PARTS: [(&str, Check); 7] = [
+const PARTS: [(&str, Check); 8] = [
     ("image encoder", images::check),
     ("image reading", images::reading),
+    ("image lengths and options", images::options),
     ("language", language::check),
     ("classes that the generator reaches", generated::coverage),
     ("same seed, same bytes", generated::repeatable),

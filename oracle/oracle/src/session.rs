@@ -1,6 +1,7 @@
 // SPDX-License-Identifier: MIT OR Apache-2.0
 //! A loaded cartridge: the Rust's `Namco163` and `Memory`, and the calls, put together from theirs (L7 to L9), with the refusals N. What
-//! the Rust does is taken as it is, but for one amendment after a remapping (M5, `leave_unmapped`).
+//! the Rust does is taken as it is, but for what is amended after a remapping (`amend`): without PRG-RAM M5, and in the new edition the
+//! flags at 6000 of a 163 (L20). There, besides, a F800 write to a 163 remaps (L21).
 //!
 //! The Rust's `Memory` holds both a part of the state (R8: entries, layout, used length) and the lent arena (`data`). Both can be set
 //! through the accessors, so that a call can be given a state out of range or an arena of another length. The directory of translated
@@ -28,6 +29,8 @@ pub const RUN_LIMIT: u64 = 29_781;
 pub const MOST_SAMPLES: usize = (14 + RUN_LIMIT as usize) / 15;
 /// N8: the first address of a CPU call.
 pub const FIRST_ADDRESS: u16 = 0x4800;
+/// L21: the first address of the register that protects.
+pub const F800: u16 = 0xF800;
 /// M5, L13: the PRG entries of the window at 6000.
 pub const RAM_WINDOW: Range<usize> = 24..32;
 
@@ -35,6 +38,8 @@ pub const RAM_WINDOW: Range<usize> = 24..32;
 pub struct Session {
     pub chip: Namco163,
     pub memory: Memory,
+    /// L19: whether it is of the new edition. No call changes it.
+    pub f800_protects: bool,
     pub directory: Directory,
 }
 
@@ -78,21 +83,35 @@ impl Session {
         Refusal::ArenaLength.when(arena_len != layout.arena_len())?;
 
         let mut session = Self::unamended(load);
-        leave_unmapped(&mut session.memory);
+        session.f800_protects = load.f800_protects != 0;
+        session.amend();
         Ok(session)
     }
 
-    /// What the Rust by itself makes of an accepted load.
+    /// What the Rust by itself makes of an accepted load; the old edition is its own.
     pub fn unamended(load: &Load) -> Self {
         let mut cart = cart(load);
         let Ok(chip) = Namco163::load(&mut cart);
-        Self { chip, memory: cart.memory, directory: Directory::default() }
+        Self { chip, memory: cart.memory, f800_protects: false, directory: Directory::default() }
     }
 
-    /// L13, M5: makes both tables anew. It is a step of a load and of a write, and no call; states that are lent are made with it.
+    /// L13, M5, L20: makes both tables anew. It is a step of a load and of a write, and no call; states that are lent are made with it.
     pub fn remap(&mut self) {
         self.chip.update_banks(&mut self.memory);
+        self.amend();
+    }
+
+    /// What the tables are amended by after each `update_banks` of the Rust.
+    fn amend(&mut self) {
+        if self.protects() {
+            protect_parts(&mut self.memory, self.chip.regs.prg_ram_protect);
+        }
         leave_unmapped(&mut self.memory);
+    }
+
+    /// L20, L21: whether F800 protects this board as it is now.
+    pub fn protects(&self) -> bool {
+        self.f800_protects && self.chip.board == Board::Namco163
     }
 
     pub fn layout(&self) -> Layout {
@@ -129,9 +148,12 @@ impl Session {
         let board = self.chip.board;
         self.memory.prg_write(addr, val);
         self.chip.write_register(&mut self.memory, addr, val);
-        // L11: the writes that remap. After any other, entries stay as they were lent (R10).
-        if (0x8000..=0xF7FF).contains(&addr) || self.chip.board != board {
-            leave_unmapped(&mut self.memory);
+        // L11: the writes in which the Rust has remapped; L21: one in which it has not, or not alone. After any other, entries stay as they
+        // were lent (R10).
+        if addr >= F800 && self.protects() {
+            self.remap();
+        } else if (0x8000..F800).contains(&addr) || self.chip.board != board {
+            self.amend();
         }
         Written { prg: Changed::between(&prg, self.memory.prg_pages()), chr: Changed::between(&chr, self.memory.chr_pages()) }
     }
@@ -244,9 +266,9 @@ impl Session {
     }
 
     pub fn image(&self, buffer: &mut [u8]) -> Result<(), Refusal> {
-        Refusal::ImageLength.when(buffer.len() != image::LEN)?;
+        Refusal::ImageLength.when(!image::holds(buffer.len(), self.f800_protects))?;
         self.refuse_state()?;
-        buffer.copy_from_slice(&image::encode(self));
+        image::write(self, buffer);
         Ok(())
     }
 
@@ -270,7 +292,24 @@ impl Session {
     }
 }
 
-/// M5: the one amendment. Where PRG-RAM has no page, the Rust's remapping can give the flag to the unmapped entries of the window at 6000;
+/// L20: the four parts of 6000..7FFF.
+pub const PARTS: u16 = 4;
+/// L20: bytes of a part.
+pub const PART: u16 = 0x800;
+
+/// L20: whether a 163 with this protect byte lets stores through to a part.
+pub fn unprotected(protect: u8, part: u16) -> bool {
+    protect >> 4 == 0b0100 && protect >> part & 1 == 0
+}
+
+/// L20: the new edition's flags of a 163, by the Rust's own step.
+fn protect_parts(memory: &mut Memory, protect: u8) {
+    for part in 0..PARTS {
+        memory.set_prg_writable(0x6000 + PART * part, PART.into(), unprotected(protect, part));
+    }
+}
+
+/// M5: where PRG-RAM has no page, the Rust's remapping can give the flag to the unmapped entries of the window at 6000;
 /// such an entry stays unmapped. With a page of PRG-RAM or more this does nothing.
 fn leave_unmapped(memory: &mut Memory) {
     if !memory.raw_prg_ram().is_empty() {

@@ -18,7 +18,8 @@ use tetanes::{
 /// A state in range and an arena of random bytes.
 pub fn any(rng: &mut Rng) -> Session {
     let layout = layout(rng);
-    let mut session = Session { chip: chip(rng), memory: memory(rng, &layout), directory: Directory::default() };
+    let (chip, memory) = (chip(rng), memory(rng, &layout));
+    let mut session = Session { chip, memory, f800_protects: rng.once_in(2), directory: Directory::default() };
     match rng.below(4) {
         // As a write leaves the entries, or nearly.
         0 => session.remap(),
@@ -62,7 +63,7 @@ fn chip(rng: &mut Rng) -> Namco163 {
             irq_pending: rng.once_in(2),
             nt_select_lo: rng.once_in(2),
             nt_select_hi: rng.once_in(2),
-            prg_ram_protect: rng.byte(),
+            prg_ram_protect: protect(rng),
         },
         board: rng.pick(&BOARDS),
         mapper_num: rng.pick(&[19, 210]),
@@ -75,6 +76,11 @@ fn chip(rng: &mut Rng) -> Namco163 {
         chr_banks: array::from_fn(|_| rng.byte()),
         prg_banks: array::from_fn(|_| rng.below(64) as u8),
     }
+}
+
+/// L20: half of the bytes are of those that leave a part open.
+fn protect(rng: &mut Rng) -> u8 {
+    if rng.once_in(2) { 0x40 | rng.below(16) as u8 } else { rng.byte() }
 }
 
 /// Half of the counters are some clocks from their end.

@@ -1,13 +1,19 @@
 // SPDX-License-Identifier: MIT OR Apache-2.0
 //! The replay program's language: one call a line.
 
-use crate::layout::{Load, Region};
+use crate::{
+    image::F800_PROTECTS,
+    layout::{Load, Region},
+};
 use std::fmt;
 
 /// A line may be this long, so that one `fill` can hold the largest region.
 pub const LINE_LIMIT: usize = 1_048_700;
 pub const ROOM_LIMIT: u64 = 8_192;
+/// The longest buffer of an `image`.
+pub const IMAGE_LIMIT: u64 = 1_024;
 
+/// A call's numbers. An image's is the length of what is lent, 307 where none is said.
 #[derive(Debug, Clone, PartialEq, Eq)]
 pub enum Call {
     Load(Load),
@@ -26,7 +32,7 @@ pub enum Call {
     ResetHard,
     SyncBattery,
     RestoreBattery,
-    Image,
+    Image(Option<u64>),
     Arena,
     Register { start: u16, length: u64, number: u32 },
     Lookup(u16),
@@ -98,6 +104,20 @@ impl<'a> Words<'a> {
         self.byte("the value")
     }
 
+    /// A number that may be left out, with its space.
+    fn maybe<T>(&mut self, number: impl FnOnce(&mut Self) -> Result<T, String>) -> Result<Option<T>, String> {
+        if self.words.clone().next().is_some() { number(self).map(Some) } else { Ok(None) }
+    }
+
+    /// H9: the bits of an image's byte 307.
+    fn options(&mut self) -> Result<u64, String> {
+        match self.number("the options")? {
+            0 => Ok(0),
+            options if options == F800_PROTECTS.into() => Ok(1),
+            _ => Err("the options have a bit other than $80".into()),
+        }
+    }
+
     fn region(&mut self) -> Result<Region, String> {
         let word = self.word("the region")?;
         let named = |region: &Region| region.word() == word;
@@ -147,7 +167,7 @@ fn arguments(name: &str, words: &mut Words) -> Result<Call, String> {
         },
         "sync-battery" => Call::SyncBattery,
         "restore-battery" => Call::RestoreBattery,
-        "image" => Call::Image,
+        "image" => Call::Image(words.maybe(|words| words.up_to("the length", IMAGE_LIMIT))?),
         "arena" => Call::Arena,
         "register" => register(words)?,
         "lookup" => Call::Lookup(words.address()?),
@@ -177,6 +197,7 @@ fn load(words: &mut Words) -> Result<Load, String> {
         chr: words.number("the CHR")?,
         chr_ram: words.number("the CHR-RAM flag")?,
         ciram: words.number("the CIRAM")?,
+        f800_protects: words.maybe(Words::options)?.unwrap_or(0),
     })
 }
 
@@ -200,7 +221,8 @@ impl fmt::Display for Call {
             Self::ResetHard => f.write_str("reset hard"),
             Self::SyncBattery => f.write_str("sync-battery"),
             Self::RestoreBattery => f.write_str("restore-battery"),
-            Self::Image => f.write_str("image"),
+            Self::Image(None) => f.write_str("image"),
+            Self::Image(Some(length)) => write!(f, "image {length}"),
             Self::Arena => f.write_str("arena"),
             Self::Register { start, length, number } => write!(f, "register ${start:04X} {length} ${number:08X}"),
             Self::Lookup(start) => write!(f, "lookup ${start:04X}"),
@@ -210,8 +232,9 @@ impl fmt::Display for Call {
 }
 
 fn write_load(f: &mut fmt::Formatter<'_>, load: &Load) -> fmt::Result {
-    let Load { mapper, submapper, flags, in_database, prg_rom, prg_ram, battery, chr, chr_ram, ciram } = load;
-    write!(f, "load {mapper} {submapper} ${flags:02X} {in_database} {prg_rom} {prg_ram} {battery} {chr} {chr_ram} {ciram}")
+    let Load { mapper, submapper, flags, in_database, prg_rom, prg_ram, battery, chr, chr_ram, ciram, f800_protects } = load;
+    write!(f, "load {mapper} {submapper} ${flags:02X} {in_database} {prg_rom} {prg_ram} {battery} {chr} {chr_ram} {ciram}")?;
+    if *f800_protects != 0 { write!(f, " ${F800_PROTECTS:02X}") } else { Ok(()) }
 }
 
 /// Bytes as upper case digits.

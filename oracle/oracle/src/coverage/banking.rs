@@ -97,9 +97,10 @@ fn ram_kind(view: &View) -> &'static str {
 
 /// What can become of a byte written to 6000..7FFF.
 fn stores() -> Vec<String> {
-    let ram = ["163: 6000 stores into PRG-RAM", "175: 6000 stores into PRG-RAM", "175: 6000 drops, PRG-RAM shown"].map(String::from);
+    let ram = ["163", "175"].into_iter().flat_map(|board| [("stores into PRG-RAM", board), ("drops, PRG-RAM shown", board)]);
+    let ram = ram.map(|(fate, board)| format!("{board}: 6000 {fate}"));
     let unmapped = RAM_KINDS.map(|kind| format!("{kind}: 6000 drops, the zero page shown"));
-    ram.into_iter().chain(unmapped).collect()
+    ram.chain(unmapped).collect()
 }
 
 fn boards_without_ram() -> impl Iterator<Item = String> {

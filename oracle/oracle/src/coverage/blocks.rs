@@ -135,7 +135,7 @@ fn handed_on(call: &Call, same: bool, counter: &mut Counter) {
         Call::ResetSoft => "soft reset",
         Call::ResetHard => "hard reset",
         Call::RestoreBattery => "restore",
-        Call::Image => "image",
+        Call::Image(_) => "image",
         _ => return,
     };
     counter.hit(format!("{name} with blocks held"));

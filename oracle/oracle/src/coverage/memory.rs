@@ -60,7 +60,7 @@ pub fn observe(played: &Played, counter: &mut Counter) {
         }
         Call::ResetSoft => reset("soft reset", before, counter),
         Call::ResetHard => reset("hard reset", before, counter),
-        Call::Image => counter.hit("image"),
+        Call::Image(_) => counter.hit("image"),
         Call::Arena => counter.hit("arena"),
         _ => (),
     }

@@ -2,8 +2,10 @@
 //! What a session does. An action says a few calls that belong together.
 
 mod blocks;
+mod protection;
 
 pub use blocks::fill_up;
+pub use protection::OPTION_ACTIONS;
 
 use super::{Generator, loads};
 use crate::{
@@ -426,7 +428,7 @@ fn reset(g: &mut Generator) {
 
 fn look(g: &mut Generator) {
     let image = g.rng.once_in(2);
-    g.say(if image { Call::Image } else { Call::Arena });
+    g.say(if image { Call::Image(None) } else { Call::Arena });
 }
 
 /// Addresses below 4800, and loads that leave this cartridge in place.
@@ -435,11 +437,11 @@ fn refused(g: &mut Generator) {
     let val = g.rng.byte();
     let call = g.rng.below(7);
     let load = loads::refused(&mut g.rng);
-    g.say(match call {
-        0 => Call::Read(addr),
-        1 => Call::Peek(addr),
-        2 | 3 => Call::Write(addr, val),
-        4 | 5 => Call::Preview(addr, val),
-        _ => Call::Load(load),
-    });
+    match call {
+        0 => g.say(Call::Read(addr)),
+        1 => g.say(Call::Peek(addr)),
+        2 | 3 => g.say(Call::Write(addr, val)),
+        4 | 5 => g.say(Call::Preview(addr, val)),
+        _ => g.say_load(load),
+    }
 }

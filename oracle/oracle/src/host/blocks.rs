@@ -4,7 +4,6 @@
 use super::{Host, write_word};
 use crate::{
     directory::{Block, PLACES},
-    image::LEN,
     layout::Load,
     refusal::Refusal,
     session::touched,
@@ -38,7 +37,7 @@ impl Host {
 
     /// K7: the directory is not read, so that 256 places of any content will do.
     fn load_blocks(&mut self, load: &Load) -> Result<u64, Refusal> {
-        Refusal::ImageLength.when(self.image.len() != LEN)?;
+        self.refuse_option(load)?;
         Refusal::OutOfRange.when(self.directory.places.len() != PLACES)?;
         self.load(load)?;
         self.write_image();
@@ -48,7 +47,7 @@ impl Host {
 
     /// The session holds the directory for as long as the call lasts.
     fn write_blocks(&mut self, addr: u16, val: u8) -> Result<u64, Refusal> {
-        Refusal::ImageLength.when(self.image.len() != LEN)?;
+        self.refuse_length()?;
         self.state()?;
         mem::swap(&mut self.session.directory, &mut self.directory);
         let written = self.session.write(addr, val);
@@ -60,7 +59,7 @@ impl Host {
 
     /// K10: the host has stored into this byte of the arena by itself. Behind the arena lies nothing.
     fn stored(&mut self, offset: u64) -> Result<u64, Refusal> {
-        Refusal::ImageLength.when(self.image.len() != LEN)?;
+        self.refuse_length()?;
         self.state()?;
         self.directory.refuse()?;
         if offset < self.session.layout().arena_len() {

@@ -21,6 +21,7 @@ pub const P: Load = Load {
     chr: 8_192,
     chr_ram: 0,
     ciram: 2_048,
+    f800_protects: 0,
 };
 /// L3: P in no database, a 163 that detects.
 pub const D: Load = Load { in_database: 0, ..P };
@@ -28,6 +29,11 @@ pub const D: Load = Load { in_database: 0, ..P };
 pub const U: Load = Load { mapper: 210, in_database: 0, ..P };
 pub const N175: Load = Load { mapper: 210, submapper: 1, battery: 0, ..P };
 pub const N340: Load = Load { mapper: 210, submapper: 2, battery: 0, ..P };
+
+/// L19: the same cart in the new edition.
+pub const fn new_edition(load: Load) -> Load {
+    Load { f800_protects: 1, ..load }
+}
 
 pub fn try_load(load: Load) -> Result<Session, Refusal> {
     Session::load(&load, load.arena_len())
@@ -136,7 +142,8 @@ impl Handy for Session {
     fn whole(&self) -> String {
         let (chip, memory) = (&self.chip, &self.memory);
         format!(
-            "{chip:?} {:?} {memory:?} {:?} {:?} {} {:?} {:?}",
+            "{chip:?} {} {:?} {memory:?} {:?} {:?} {} {:?} {:?}",
+            self.f800_protects,
             chip.audio.ram.as_ref() as &[u8],
             memory.prg_pages(),
             memory.chr_pages(),

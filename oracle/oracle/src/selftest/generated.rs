@@ -13,11 +13,11 @@ use oracle::{
 };
 
 const SEED: u64 = 1;
-const COVERAGE_CALLS: usize = 80_000;
+const COVERAGE_CALLS: usize = 120_000;
 
 /// Every class of calls is reached, counted from the played states.
 pub fn coverage(t: &mut Checks) {
-    let coverage = Coverage::of(&generate(SEED, COVERAGE_CALLS).calls);
+    let coverage = Coverage::of(&generate(SEED, COVERAGE_CALLS, true).calls);
     for (class, count) in &coverage.counts {
         t.holds(&format!("`{class}` is reached"), *count > 0);
     }
@@ -32,8 +32,8 @@ pub fn coverage(t: &mut Checks) {
 
 /// The same seed gives the same bytes, another seed others; files say what was played, and calls read back as they were.
 pub fn repeatable(t: &mut Checks) {
-    for calls in [1, 2, 3, 5, 19, 20, 100, 5_000] {
-        let (first, again, other) = (generate(7, calls), generate(7, calls), generate(8, calls));
+    for (calls, options) in [1, 2, 3, 5, 19, 20, 100, 5_000].into_iter().flat_map(|calls| [(calls, false), (calls, true)]) {
+        let (first, again, other) = (generate(7, calls, options), generate(7, calls, options), generate(8, calls, options));
         t.eq("calls", first.calls.len(), calls);
         t.holds("same seed, calls file", first.calls_text() == again.calls_text());
         t.holds("same seed, answers file", first.answers_text() == again.answers_text());
@@ -48,12 +48,16 @@ pub fn repeatable(t: &mut Checks) {
 /// D3.1 on the Rust: with runs cut differently, other answers, joined samples and rises are the same.
 pub fn recuts(t: &mut Checks) {
     for seed in 0..8 {
-        let calls = generate(seed, 4_000).calls_text().into_bytes();
+        let options = seed % 2 == 1;
+        let calls = generate(seed, 4_000, options).calls_text().into_bytes();
         let trace = Trace::of(&calls);
         for cut in 0..3 {
             let cut_calls = recut(&calls, cut);
             let what = format!("seed {seed}, cut {cut}");
-            let title = format!("# oracle recut: seed {cut}, of: oracle generate: seed {seed}, 4000 calls");
+            let title = format!(
+                "# oracle recut: seed {cut}, of: oracle generate: seed {seed}, 4000 calls{}",
+                if options { ", options" } else { "" }
+            );
             t.eq(&format!("{what}: first line"), lines(&cut_calls).next(), Some(title.as_bytes()));
             t.holds(&format!("{what}: the list is another"), lines(&cut_calls).skip(1).ne(lines(&calls).skip(1)));
             t.eq(&format!("{what}: first other trace"), first_difference(&trace, &Trace::of(&cut_calls)), None);
@@ -65,10 +69,19 @@ pub fn recuts(t: &mut Checks) {
             t.holds(&format!("there is {word}"), lines(&calls).any(|line| line.starts_with(word.as_bytes())));
         }
         t.holds("there are rises", trace.stretches.iter().any(|stretch| !stretch.rises.is_empty()));
+        options_stay(t, &calls, options);
     }
     rises_since_load(t);
     previews_cut(t);
     blocks_cut(t);
+}
+
+/// Loads with an option and images of a said length: many or, where no option is drawn, none; and as many in another cut.
+fn options_stay(t: &mut Checks, calls: &[u8], options: bool) {
+    let of_an_option = |line: &&[u8]| line.starts_with(b"image ") || (line.starts_with(b"load ") && line.ends_with(b" $80"));
+    let count = |list: &[u8]| lines(list).filter(of_an_option).count();
+    t.holds("options", if options { count(calls) > 50 } else { count(calls) == 0 });
+    t.eq("options in another cut", count(&recut(calls, 0)), count(calls));
 }
 
 fn first_difference(left: &Trace, right: &Trace) -> Option<String> {
@@ -134,7 +147,7 @@ const KINDS: [Kind; 22] = [
     ("a run's samples made", |call, answer| matches!(call, Call::Run { .. }) && answer.starts_with("ok 1 "), 1, 0),
     ("a run's rise", |call, answer| matches!(call, Call::Run { .. }) && rose(answer), 2, 0),
     ("a sample's last bit", |call, answer| matches!(call, Call::Run { .. }) && answer.starts_with("ok 2 0 $3"), 4, 0),
-    ("an image digit", |call, answer| matches!(call, Call::Image) && answer.starts_with("ok"), 1, 300),
+    ("an image digit", |call, answer| matches!(call, Call::Image(_)) && answer.starts_with("ok"), 1, 300),
     ("the arena's Adler-32", |call, answer| matches!(call, Call::Arena) && answer.starts_with("ok"), 2, 0),
     ("the arena's length", |call, answer| matches!(call, Call::Arena) && answer.starts_with("ok"), 1, 0),
     ("the battery's length", |call, answer| matches!(call, Call::Sram) && answer.starts_with("ok"), 2, 0),
@@ -153,7 +166,7 @@ fn rose(answer: &str) -> bool {
 
 /// One changed bit is reported as exactly one difference, at its line; so are a missing and a surplus line.
 pub fn comparison(t: &mut Checks) {
-    let recorded = generate(SEED, 10_000);
+    let recorded = generate(SEED, 10_000, true);
     for (what, gives, word, digit) in KINDS {
         let pairs = recorded.calls.iter().zip(&recorded.answers).enumerate();
         let given: Vec<_> = pairs.filter(|(_, (call, answer))| gives(call, answer)).collect();

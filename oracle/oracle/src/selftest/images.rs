@@ -1,13 +1,13 @@
 // SPDX-License-Identifier: MIT OR Apache-2.0
-//! Tests of the image's writing and reading (H1 to H3): a fresh P, the first bit of every field, what is out of range, and both round
-//! trips.
+//! Tests of the image's writing and reading (H1 to H3, H9, H10): a fresh P, the first bit of every field, what is out of range, both round
+//! trips, and the two lengths with the byte of options.
 
 use super::{
-    bench::{Handy, P, loaded, number, refusal},
+    bench::{Handy, P, loaded, new_edition, number, refusal},
     checks::Checks,
 };
 use oracle::{
-    image::{LEN, decode, encode},
+    image::{LEN, OPTIONS_LEN, decode, encode, lengths, of_length},
     range::in_range,
     rng::Rng,
     session::Session,
@@ -127,7 +127,7 @@ const RANGES: &[(&str, usize, usize, usize, Numbers, Numbers)] = &[
 
 pub fn reading(t: &mut Checks) {
     let fresh = image(&loaded(P));
-    for len in [0, 306, 308] {
+    for len in [0, 306, 309, 1_024] {
         t.eq("another length", refusal(decode(&vec![0; len])), 1);
     }
     for (what, first, width, count, fit, unfit) in RANGES {
@@ -162,8 +162,60 @@ fn round_trips(t: &mut Checks) {
         let mut session = states::any(&mut rng);
         t.holds("a random state is in range", in_range(&session.chip, &session.memory));
         session.lend_arena(Box::default());
-        let read = decode(&encode(&session)).map(|read| read.whole());
-        t.holds("a random state is read back", read.is_ok_and(|read| read == session.whole()));
+        for len in lengths(&session) {
+            let image = of_length(&session, *len);
+            let read = decode(&image);
+            t.holds("a random state is read back", read.as_ref().is_ok_and(|read| read.whole() == session.whole()));
+            t.holds("and written as it was", read.is_ok_and(|read| of_length(&read, *len) == image));
+        }
+    }
+}
+
+/// H9, H10, N1, N2: the byte of options, and an image that is cut or lengthened.
+pub fn options(t: &mut Checks) {
+    let (old, new) = (loaded(P), loaded(new_edition(P)));
+    for (what, session, options, entries) in [
+        ("old", &old, 0x00, [0x0A, 0x61, 0x54, 0x2B, 0x85, 0x90, 0xB6, 0x17, 0x42, 0xF8, 0x61]),
+        ("new", &new, 0x80, [0x0A, 0x41, 0x50, 0x2B, 0x05, 0x80, 0xB4, 0x17, 0x02, 0xF0, 0x60]),
+    ] {
+        let image = of_length(session, OPTIONS_LEN);
+        t.eq(&format!("{what}: entries 24..31"), &image[226..237], &entries);
+        t.eq(&format!("{what}: byte 307"), image[LEN], options);
+        t.holds(&format!("{what}: the first 307 bytes"), image[..LEN] == encode(session));
+        for byte in 0..=255 {
+            let mut other = image.clone();
+            other[LEN] = byte;
+            let read = decode(&other);
+            t.eq(&format!("{what}, byte 307 = {byte:02X}"), refusal(decode(&other)), if byte & 0x7F == 0 { 0 } else { 2 });
+            t.holds("written as it was", read.is_ok_and(|read| of_length(&read, OPTIONS_LEN) == other) == (byte & 0x7F == 0));
+        }
+    }
+    let state = |bytes: &[u8]| decode(bytes).map(|read| read.whole()).map_err(|refusal| refusal.number());
+    let long = of_length(&old, OPTIONS_LEN);
+    t.holds("cut, with byte 307 zero", state(&long[..LEN]).is_ok() && state(&long[..LEN]) == state(&long));
+    let cut = decode(&of_length(&new, OPTIONS_LEN)[..LEN]);
+    t.eq("cut, with an option: another state", cut.is_ok_and(|cut| !cut.f800_protects && cut.prg(24..32) == new.prg(24..32)), true);
+    lengths_to_write(t);
+}
+
+/// N1, N2: a state in range and one out of it, with an option and without, into so many bytes.
+fn lengths_to_write(t: &mut Checks) {
+    let bad = |mut session: Session| {
+        session.chip.audio.update_counter = 15;
+        session
+    };
+    let (old, new) = (loaded(P), loaded(new_edition(P)));
+    for (what, session, answers) in [
+        ("in range, no option", old.clone(), [0, 0]),
+        ("in range, an option", new.clone(), [1, 0]),
+        ("bad, no option", bad(old), [2, 2]),
+        ("bad, an option", bad(new), [1, 2]),
+    ] {
+        for (len, answer) in [(0, 1), (306, 1), (307, answers[0]), (308, answers[1]), (309, 1), (1_024, 1)] {
+            let mut buffer = vec![0xEE; len];
+            t.eq(&format!("{what}, {len} bytes"), refusal(session.image(&mut buffer)), answer);
+            t.holds("a refused image is unaltered", answer == 0 || buffer == vec![0xEE; len]);
+        }
     }
 }
 

@@ -1,7 +1,10 @@
 // SPDX-License-Identifier: MIT OR Apache-2.0
 //! The replay program's language: lines and their answers.
 
-use super::checks::Checks;
+use super::{
+    bench::{P, new_edition},
+    checks::Checks,
+};
 use oracle::{
     compare::compare,
     layout::Region,
@@ -45,6 +48,15 @@ fn numbers(t: &mut Checks) {
         ("lookup $ffff", Call::Lookup(0xFFFF)),
         ("directory", Call::Directory),
         ("run 18446744073709551615 8192", Call::Run { clocks: u64::MAX, room: 8192 }),
+        ("image", Call::Image(None)),
+        ("image 307", Call::Image(Some(307))),
+        ("image $134", Call::Image(Some(308))),
+        ("image 0", Call::Image(Some(0))),
+        ("image 1024", Call::Image(Some(1_024))),
+        ("load 19 0 0 1 32768 8192 128 8192 0 2048", Call::Load(P)),
+        ("load 19 0 0 1 32768 8192 128 8192 0 2048 0", Call::Load(P)),
+        ("load 19 0 0 1 32768 8192 128 8192 0 2048 $80", Call::Load(new_edition(P))),
+        ("load 19 0 0 1 32768 8192 128 8192 0 2048 128", Call::Load(new_edition(P))),
     ] {
         t.eq(line, parse(line.as_bytes()), Line::Call(call));
     }
@@ -53,7 +65,7 @@ fn numbers(t: &mut Checks) {
     }
 }
 
-const MALFORMED: [&str; 46] = [
+const MALFORMED: [&str; 58] = [
     " ",
     "jump",
     "Read $8000",
@@ -98,6 +110,18 @@ const MALFORMED: [&str; 46] = [
     "lookup",
     "lookup 65536",
     "directory 1",
+    "image ",
+    "image 1025",
+    "image 18446744073709551616",
+    "image 308 308",
+    "image -1",
+    "load 19 0 0 1 0 0 128 0 0 0 $40",
+    "load 19 0 0 1 0 0 128 0 0 0 1",
+    "load 19 0 0 1 0 0 128 0 0 0 $181",
+    "load 19 0 0 1 0 0 128 0 0 0 $180",
+    "load 19 0 0 1 0 0 128 0 0 0 $10000000000000080",
+    "load 19 0 0 1 0 0 128 0 0 0 0 0",
+    "load 19 0 0 1 0 0 128 0 0 0 ",
     "load 19 256 0 1 0 0 128 0 0 0",
     "load 19 0 0 1 0 0 128 0 0",
 ];
@@ -116,7 +140,7 @@ fn malformed(t: &mut Checks) {
 }
 
 /// A short session, with answers in the forms of README.md's table of lines.
-const SESSION: [(&str, &str); 49] = [
+const SESSION: [(&str, &str); 57] = [
     ("sram", NO_CARTRIDGE),
     ("load 20 0 0 1 32768 8192 128 8192 0 2048", "refused 4"),
     ("run 0 0", NO_CARTRIDGE),
@@ -166,6 +190,14 @@ const SESSION: [(&str, &str); 49] = [
     ("sync-battery", "ok"),
     ("restore-battery", "ok"),
     ("arena", "ok 53248 $C1B4021A"),
+    ("image 306", "refused 1"),
+    ("image 309", "refused 1"),
+    ("image 0", "refused 1"),
+    ("load 20 0 0 1 32768 8192 128 8192 0 2048 $80", "refused 4"),
+    ("load 19 0 0 1 32768 8192 128 8192 0 2048 $80", "ok"),
+    ("image", "refused 1"),
+    ("image 307", "refused 1"),
+    ("write $F800 $4E", "ok $0000000003000000 2 24 $0000 0 16"),
 ];
 
 fn session(t: &mut Checks) {
@@ -174,7 +206,14 @@ fn session(t: &mut Checks) {
         t.eq(line, player.line(line.as_bytes()).as_deref(), Some(answer));
     }
     let image = player.line(b"image").unwrap_or_default();
-    t.eq("an image's digits", image.strip_prefix("ok ").map(str::len), Some(614));
+    t.eq("an image's digits", image.strip_prefix("ok ").map(str::len), None);
+    let image = player.line(b"image 308").unwrap_or_default();
+    t.eq("an image's digits", image.strip_prefix("ok ").map(str::len), Some(616));
+    player.line(b"load 19 0 0 1 32768 8192 128 8192 0 2048 0");
+    for (line, digits) in [("image", 614), ("image 307", 614), ("image 308", 616)] {
+        let image = player.line(line.as_bytes()).unwrap_or_default();
+        t.eq("an image's digits", image.strip_prefix("ok ").map(str::len), Some(digits));
+    }
 }
 
 /// The words of an error are free, but for the one about the missing cartridge; and an error is no answer to a call.

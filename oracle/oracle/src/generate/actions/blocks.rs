@@ -1,7 +1,7 @@
 // SPDX-License-Identifier: MIT OR Apache-2.0
 //! Calls around the directory (K): blocks where writes will touch them, what drops them and what does not, and lookups behind it.
 
-use super::{Action, FIRST, battery, chr, fill, region_byte, reset, run};
+use super::{Action, FIRST, battery, chr, fill, protection, region_byte, reset, run};
 use crate::{
     directory::{Block, LONGEST, PLACES},
     generate::Generator,
@@ -20,6 +20,10 @@ pub fn around(g: &mut Generator) {
     let addr = g.address(first, last);
     if addr < 0x8000 && g.loaded().chip.board == Board::Namco175 && g.rng.once_in(2) {
         protect(g);
+    }
+    // Else few stores would reach the work RAM of a 163 of the new edition.
+    if addr < 0x8000 && g.loaded().protects() && g.rng.once_in(2) {
+        protection::open(g);
     }
     let starts = register_near(g, addr);
     touch(g, addr);
@@ -77,6 +81,7 @@ fn touch_page(g: &mut Generator, addr: u16) {
         0..4 if addr < 0x8000 => store(g, there),
         4 if addr < 0x8000 => store(g, (page + PAGE as u16).min(0x7FFF)),
         5 if addr < 0x8000 && g.loaded().chip.board == Board::Namco175 => protect(g),
+        5 if addr < 0x8000 && g.loaded().protects() => protection::open(g),
         0..6 => bank(g, addr),
         _ => shown_byte(g, there),
     }
@@ -128,7 +133,7 @@ fn restore(g: &mut Generator) {
 
 fn refused_load(g: &mut Generator) {
     let load = super::loads::refused(&mut g.rng);
-    g.say(Call::Load(load));
+    g.say_load(load);
 }
 
 /// K6: fills of any region and battery sync, accepted and refused.

@@ -8,7 +8,7 @@ use crate::selftest::{
 };
 use oracle::{
     host::{Host, HostCall, run_word, write_word},
-    image::{self, LEN},
+    image::{self, LEN, OPTIONS_LEN},
     layout::Load,
 };
 
@@ -108,10 +108,12 @@ fn refusals(t: &mut Checks) {
     }
 }
 
-/// N20, a host's load; H4: whatever bytes the image has, if it has 307.
+/// N20, a host's load; H4: whatever bytes the image has, if it has 307 or 308.
 fn loads(t: &mut Checks) {
     let wrong = Load { mapper: 20, ..P };
-    for (len, load, answer) in [(308, wrong, 1), (LEN, wrong, 4), (LEN, Load { battery: 0, ..P }, 6), (LEN, P, 7)] {
+    for (len, load, answer) in
+        [(309, wrong, 1), (306, wrong, 1), (LEN, wrong, 4), (OPTIONS_LEN, wrong, 4), (LEN, Load { battery: 0, ..P }, 6), (LEN, P, 7)]
+    {
         let mut host = Host::new(loaded(N175));
         host.lend_image(&vec![0xFF; len]);
         t.eq("a refused load", host.call(HostCall::Load(load)), answer);

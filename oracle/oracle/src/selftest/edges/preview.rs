@@ -32,7 +32,7 @@ const NAMETABLES: Changed = Changed { mask: 0xFF00, count: 8, lowest: 8 };
 
 /// All that a preview must leave: the image has each field of a state in range (H1).
 fn seen(session: &Session) -> (Vec<u8>, Vec<u8>) {
-    (image::encode(session).to_vec(), session.arena().to_vec())
+    (image::of_length(session, image::OPTIONS_LEN), session.arena().to_vec())
 }
 
 /// A player with this cartridge previews the write two times and then makes it. The answers, and whether each preview left state and arena.

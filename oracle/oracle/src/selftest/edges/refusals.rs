@@ -52,7 +52,7 @@ fn arena_lengths(t: &mut Checks) {
         *p.memory.raw_data_mut() = vec![0; len].into();
         t.eq(&format!("peek with {len} bytes"), refusal(p.peek(0x6000)), answer);
     }
-    for (len, answer) in [(0, 1), (306, 1), (307, 0), (308, 1)] {
+    for (len, answer) in [(0, 1), (306, 1), (307, 0), (308, 0), (309, 1)] {
         let mut buffer = vec![0xEE; len];
         t.eq(&format!("image of {len} bytes"), refusal(loaded(P).image(&mut buffer)), answer);
         t.holds("a refused image is unaltered", answer == 0 || buffer == vec![0xEE; len]);

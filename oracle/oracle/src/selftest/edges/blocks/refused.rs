@@ -190,7 +190,7 @@ fn stored(t: &mut Checks) {
     host.lend_image(&[0xFF; 307]);
     host.directory = all.clone();
     t.eq("an unfit image", host.call_blocks(BlockCall::Stored(1024)), 2);
-    host.lend_image(&[0; 308]);
+    host.lend_image(&[0; 309]);
     t.eq("a long image", host.call_blocks(BlockCall::Stored(1024)), 1);
     t.holds("refused, it stays", host.directory == all);
 }
