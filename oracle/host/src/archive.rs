@@ -14,6 +14,7 @@ pub fn call(call: HostCall, image: &mut Lent, arena: &mut Lent, samples: &mut Le
     unsafe {
         match call {
             HostCall::Load(load) => load_call(&load, (image, image_len), (arena, arena_len)),
+            HostCall::LoadOptions(load) => load_options_call(&load, (image, image_len), (arena, arena_len)),
             HostCall::Read(addr) => namco163_read(image, image_len, arena, arena_len, addr),
             HostCall::Write(addr, val) => namco163_write(image, image_len, arena, arena_len, addr, val),
             HostCall::Preview(addr, val) => namco163_preview(image, image_len, arena, arena_len, addr, val),
@@ -40,7 +41,7 @@ pub fn call_blocks(call: BlockCall, image: &mut Lent, arena: &mut Lent, director
 }
 
 unsafe fn load_call(load: &Load, (image, image_len): (Bytes, usize), (arena, arena_len): (Bytes, usize)) -> u64 {
-    let Load { mapper, submapper, flags, in_database, prg_rom, prg_ram, battery, chr, chr_ram, ciram } = *load;
+    let Load { mapper, submapper, flags, in_database, prg_rom, prg_ram, battery, chr, chr_ram, ciram, .. } = *load;
     unsafe {
         namco163_load(
             image,
@@ -61,13 +62,36 @@ unsafe fn load_call(load: &Load, (image, image_len): (Bytes, usize), (arena, are
     }
 }
 
+unsafe fn load_options_call(load: &Load, (image, image_len): (Bytes, usize), (arena, arena_len): (Bytes, usize)) -> u64 {
+    let Load { mapper, submapper, flags, in_database, prg_rom, prg_ram, battery, chr, chr_ram, ciram, f800_protects } = *load;
+    unsafe {
+        namco163_load_options(
+            image,
+            image_len,
+            arena,
+            arena_len,
+            mapper,
+            submapper,
+            flags,
+            in_database,
+            prg_rom,
+            prg_ram,
+            battery,
+            chr,
+            chr_ram,
+            ciram,
+            f800_protects,
+        )
+    }
+}
+
 unsafe fn load_blocks_call(
     load: &Load,
     (image, image_len): (Bytes, usize),
     (arena, arena_len): (Bytes, usize),
     (places, count): (*mut u64, usize),
 ) -> u64 {
-    let Load { mapper, submapper, flags, in_database, prg_rom, prg_ram, battery, chr, chr_ram, ciram } = *load;
+    let Load { mapper, submapper, flags, in_database, prg_rom, prg_ram, battery, chr, chr_ram, ciram, f800_protects } = *load;
     unsafe {
         namco163_load_blocks(
             image,
@@ -86,6 +110,7 @@ unsafe fn load_blocks_call(
             chr,
             chr_ram,
             ciram,
+            f800_protects,
         )
     }
 }

@@ -14,10 +14,10 @@ use oracle::{
     directory::{Block, LONGEST},
     generate::loads,
     host::BlockCall,
-    image::LEN,
+    image::{LEN, OPTIONS_LEN},
     layout::PAGE,
     rng::Rng,
-    session::Session,
+    session::{F800, Session},
     states,
 };
 
@@ -40,7 +40,8 @@ fn session(pair: &mut Pair, rng: &mut Rng, from_load: bool) -> Compared<()> {
     if from_load {
         load(pair, rng)?;
     } else {
-        pair.lend_state(states::any(rng));
+        let state = states::any(rng);
+        draw::lend_state(pair, rng, state);
     }
     // From a load on, half of the directories are the load's, and hold what is registered.
     if !from_load || rng.once_in(2) {
@@ -55,8 +56,9 @@ fn session(pair: &mut Pair, rng: &mut Rng, from_load: bool) -> Compared<()> {
 /// K7: an accepted load on any bytes and any 256 places; then bytes are put into the arena, as from a ROM file.
 fn load(pair: &mut Pair, rng: &mut Rng) -> Compared<()> {
     let load = loads::accepted(rng);
+    let load = loads::in_an_edition(rng, load);
     let len = load.arena_len() as usize;
-    pair.lend_image(&rng.bytes(LEN));
+    draw::lend_bytes(pair, rng, load.has_option());
     pair.lend_arena(&rng.bytes(len));
     let way = rng.below(7) as usize;
     let directory = if rng.once_in(2) { fit(rng) } else { unfit(rng, way) };
@@ -128,7 +130,9 @@ fn write(pair: &Pair, rng: &mut Rng) -> BlockCall {
     let addr = address(pair, rng);
     let same = pair.host().session().and_then(|session| session.peek(addr).ok());
     let val = if rng.once_in(4) { same.unwrap_or(0) } else { rng.byte() };
-    BlockCall::Write(addr, val)
+    // L20: so that flags change, and drop blocks.
+    let open = addr >= F800 && rng.once_in(2);
+    BlockCall::Write(addr, if open { 0x40 | val & 0x0F } else { val })
 }
 
 /// An address in the page of a held block, of a bank register, or any from 4800 on.
@@ -138,7 +142,7 @@ fn address(pair: &Pair, rng: &mut Rng) -> u16 {
     match rng.below(8) {
         0..3 if !held.is_empty() => rng.pick(&held).start / PAGE as u16 * PAGE as u16 + place,
         3..5 => 0x6000 + rng.below(8) as u16 * PAGE as u16 + place,
-        5 => rng.pick(&[0xE000, 0xE800, 0xF000, 0xC000]),
+        5 => rng.pick(&[0xE000, 0xE800, 0xF000, 0xC000, 0xF800]),
         _ => draw::address(rng),
     }
 }
@@ -181,7 +185,7 @@ fn several_wrong(pair: &mut Pair, rng: &mut Rng) -> Compared<()> {
     let call = any_call(pair, rng);
     lend_wrong(pair, rng, &session, call);
     reached::call(pair, call)?;
-    pair.lend_state(session);
+    draw::lend_state(pair, rng, session);
     pair.lend_directory(fit);
     Ok(())
 }
@@ -189,7 +193,10 @@ fn several_wrong(pair: &mut Pair, rng: &mut Rng) -> Compared<()> {
 /// A call of those that take more than a directory, or any.
 fn any_call(pair: &Pair, rng: &mut Rng) -> BlockCall {
     match rng.below(8) {
-        0..3 => BlockCall::Load(if rng.once_in(2) { loads::accepted(rng) } else { loads::refused(rng) }),
+        0..3 => {
+            let load = if rng.once_in(2) { loads::accepted(rng) } else { loads::refused(rng) };
+            BlockCall::Load(loads::in_an_edition(rng, load))
+        }
         3..6 => BlockCall::Write(if rng.once_in(3) { rng.pick(&[0x0000, 0x47FF]) } else { address(pair, rng) }, rng.byte()),
         6 => BlockCall::Stored(offset(pair, rng)),
         _ => fit_call(pair, rng),
@@ -199,10 +206,10 @@ fn any_call(pair: &Pair, rng: &mut Rng) -> BlockCall {
 /// At times an image of another length or of random bytes, and an arena of another length.
 fn lend_wrong(pair: &mut Pair, rng: &mut Rng, session: &Session, call: BlockCall) {
     if rng.once_in(4) {
-        let len = rng.pick(&[0, LEN - 1, LEN + 1, 1_000]);
+        let len = rng.pick(&[0, LEN - 1, OPTIONS_LEN + 1, 1_000]);
         pair.lend_image(&rng.bytes(len));
     } else if rng.once_in(4) {
-        pair.lend_image(&rng.bytes(LEN));
+        draw::lend_bytes(pair, rng, false);
     }
     let wanted = if let BlockCall::Load(load) = call { load.arena_len() as usize } else { session.arena().len() };
     let len = if rng.once_in(4) { rng.pick(&[0, wanted.saturating_sub(1), wanted + 1]) } else { wanted };

@@ -4,10 +4,23 @@
 use oracle::host::{BlockCall, HostCall};
 use std::{collections::BTreeMap, fmt};
 
-const KINDS: [&str; 12] =
-    ["load", "read", "write", "preview", "run", "reset", "register", "lookup", "find", "load_blocks", "write_blocks", "stored"];
+const KINDS: [&str; 13] = [
+    "load",
+    "load_options",
+    "read",
+    "write",
+    "preview",
+    "run",
+    "reset",
+    "register",
+    "lookup",
+    "find",
+    "load_blocks",
+    "write_blocks",
+    "stored",
+];
 /// The first kind that is lent a directory.
-const BLOCKS: usize = 6;
+const BLOCKS: usize = 7;
 
 /// Refusals that a host can meet.
 const REFUSALS: [usize; 12] = [1, 2, 3, 4, 5, 6, 7, 8, 10, 11, 13, 14];
@@ -33,11 +46,12 @@ impl Counts {
     pub fn call(&mut self, call: HostCall, word: u64) {
         let kind = match call {
             HostCall::Load(_) => 0,
-            HostCall::Read(_) => 1,
-            HostCall::Write(..) => 2,
-            HostCall::Preview(..) => 3,
-            HostCall::Run(_) => 4,
-            HostCall::Reset(_) => 5,
+            HostCall::LoadOptions(_) => 1,
+            HostCall::Read(_) => 2,
+            HostCall::Write(..) => 3,
+            HostCall::Preview(..) => 4,
+            HostCall::Run(_) => 5,
+            HostCall::Reset(_) => 6,
         };
         self.count(kind, word);
     }

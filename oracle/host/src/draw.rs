@@ -7,8 +7,10 @@ use crate::{
 };
 use oracle::{
     host::HostCall,
+    image::{self, LENGTHS, OPTIONS_LEN},
+    layout::Load,
     rng::Rng,
-    session::{RUN_LIMIT, samples_made},
+    session::{F800, RUN_LIMIT, Session, samples_made},
 };
 
 /// Numbers that are a yes.
@@ -23,6 +25,30 @@ pub fn yes_no(rng: &mut Rng, number: u64) -> u64 {
 /// An address from 4800 on.
 pub fn address(rng: &mut Rng) -> u16 {
     rng.address(FIRST, 0xFFFF)
+}
+
+/// A load by one of the two calls; where it asks for an option, by the one that takes it.
+pub fn load(rng: &mut Rng, load: Load) -> HostCall {
+    if load.has_option() || rng.once_in(2) { HostCall::LoadOptions(load) } else { HostCall::Load(load) }
+}
+
+/// An image of random bytes, of a length that can hold an option or none.
+pub fn lend_bytes(pair: &mut Pair, rng: &mut Rng, option: bool) {
+    let len = if option { OPTIONS_LEN } else { rng.pick(&LENGTHS) };
+    let bytes = rng.bytes(len);
+    pair.lend_image(&bytes);
+}
+
+/// Lends a state by an image of one of the lengths that can hold it.
+pub fn lend_state(pair: &mut Pair, rng: &mut Rng, session: Session) {
+    let len = rng.pick(image::lengths(&session));
+    pair.lend_state(session, len);
+}
+
+/// A write's address and byte; half of the bytes for F800 leave a part of the work RAM open (L20).
+fn write(rng: &mut Rng) -> (u16, u8) {
+    let (addr, val) = (address(rng), value(rng));
+    if addr >= F800 && rng.once_in(2) { (addr, 0x40 | val & 0x0F) } else { (addr, val) }
 }
 
 /// A byte, at times one at which a register does something else.
@@ -42,9 +68,10 @@ fn clocks(rng: &mut Rng) -> u64 {
 
 /// A call that nothing in its numbers refuses.
 pub fn fit_call(rng: &mut Rng) -> HostCall {
+    let (addr, val) = write(rng);
     match rng.below(18) {
-        0..8 => HostCall::Write(address(rng), value(rng)),
-        8..10 => HostCall::Preview(address(rng), value(rng)),
+        0..8 => HostCall::Write(addr, val),
+        8..10 => HostCall::Preview(addr, val),
         10..13 => HostCall::Read(address(rng)),
         13..17 => HostCall::Run(clocks(rng)),
         _ => HostCall::Reset(rng.below(2)),

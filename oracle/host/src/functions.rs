@@ -22,6 +22,23 @@ unsafe extern "C" {
         chr_ram: u64,
         ciram: u64,
     ) -> u64;
+    pub fn namco163_load_options(
+        image: Bytes,
+        image_len: usize,
+        arena: Bytes,
+        arena_len: usize,
+        mapper: u64,
+        submapper: u8,
+        flags: u8,
+        in_database: u64,
+        prg_rom: u64,
+        prg_ram: u64,
+        battery: u64,
+        chr: u64,
+        chr_ram: u64,
+        ciram: u64,
+        f800_protects: u64,
+    ) -> u64;
     pub fn namco163_read(image: Bytes, image_len: usize, arena: Bytes, arena_len: usize, addr: u16) -> u64;
     pub fn namco163_write(image: Bytes, image_len: usize, arena: Bytes, arena_len: usize, addr: u16, val: u8) -> u64;
     pub fn namco163_preview(image: *const c_void, image_len: usize, arena: *const c_void, arena_len: usize, addr: u16, val: u8) -> u64;
@@ -49,6 +66,7 @@ unsafe extern "C" {
         chr: u64,
         chr_ram: u64,
         ciram: u64,
+        f800_protects: u64,
     ) -> u64;
     pub fn namco163_write_blocks(
         image: Bytes,

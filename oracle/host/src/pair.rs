@@ -1,7 +1,7 @@
 // SPDX-License-Identifier: MIT OR Apache-2.0
 //! The archive and the Rust, side by side: both are lent the same, get the same calls, and are compared after each.
 
-use crate::{archive, counts::Counts, lent::Lent, places::Places};
+use crate::{archive, counts::Counts, editions, lent::Lent, places::Places};
 use oracle::{
     directory::Directory,
     host::{BlockCall, Host, HostCall},
@@ -50,8 +50,9 @@ impl Pair {
         self.directory = Places::new(&self.host.directory.places, self.guard);
     }
 
-    pub fn lend_state(&mut self, session: Session) {
-        self.host = Host::new(session);
+    /// Lends a state by an image of a length that can hold it.
+    pub fn lend_state(&mut self, session: Session, image_len: usize) {
+        self.host = Host::of_length(session, image_len);
         self.lend_again();
         self.samples = Lent::default();
     }
@@ -86,7 +87,8 @@ impl Pair {
     /// Something that the host does by itself, between calls.
     pub fn edit(&mut self, change: impl FnOnce(&mut Session)) {
         self.host.edit(change);
-        if self.host.arena().len() == self.arena.bytes().len() {
+        let same = self.host.arena().len() == self.arena.bytes().len() && self.host.image().len() == self.image.bytes().len();
+        if same {
             self.arena.set(self.host.arena());
             self.image.set(self.host.image());
         } else {
@@ -97,9 +99,11 @@ impl Pair {
     /// The word that both answer.
     pub fn call(&mut self, call: HostCall) -> Compared<u64> {
         let image_before = self.image.bytes().to_vec();
+        let before = editions::seen(&self.host);
         let came = archive::call(call, &mut self.image, &mut self.arena, &mut self.samples);
         let expected = self.host.call(call);
         self.counts.call(call, expected);
+        editions::count(&mut self.counts, &before, call, expected);
         let differences = self.differences(expected, came);
         if differences.is_empty() {
             return Ok(expected);
@@ -114,9 +118,11 @@ impl Pair {
     /// The word that both answer to a call with a directory.
     pub fn call_blocks(&mut self, call: BlockCall) -> Compared<u64> {
         let (image_before, places_before) = (self.image.bytes().to_vec(), self.directory.places().to_vec());
+        let image_len = image_before.len();
         let came = archive::call_blocks(call, &mut self.image, &mut self.arena, &mut self.directory);
         let expected = self.host.call_blocks(call);
         self.counts.call_blocks(call, expected);
+        editions::count_blocks(&mut self.counts, image_len, call, expected);
         let differences = self.differences(expected, came);
         if differences.is_empty() {
             return Ok(expected);

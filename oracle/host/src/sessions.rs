@@ -32,7 +32,7 @@ pub fn play(pair: &mut Pair, rng: &mut Rng, calls: u64) -> Compared<()> {
     // Whether the host changes state and arena by itself in this session.
     let mut edits = false;
     while pair.counts.calls() < end {
-        for call in generate(rng.number(), PIECE).calls {
+        for call in generate(rng.number(), PIECE, true).calls {
             match call {
                 Call::Load(named) => {
                     load(pair, rng, named)?;
@@ -92,24 +92,35 @@ fn edit(session: &mut Session, call: Call) {
 /// A refused load leaves the session in place. An accepted one is lent any bytes, and then bytes are put into the arena, as from a ROM
 /// file.
 fn load(pair: &mut Pair, rng: &mut Rng, named: Load) -> Compared<()> {
-    let mut load = Load { in_database: yes_no(rng, named.in_database), chr_ram: yes_no(rng, named.chr_ram), ..named };
+    let mut load = Load {
+        in_database: yes_no(rng, named.in_database),
+        chr_ram: yes_no(rng, named.chr_ram),
+        f800_protects: yes_no(rng, named.f800_protects),
+        ..named
+    };
     if rng.once_in(32) {
         near_limit(rng, &mut load);
     }
     let len = load.arena_len() as usize;
+    let call = draw::load(rng, load);
     if Session::load(&load, len as u64).is_err() {
-        return pair.call(HostCall::Load(load)).map(|_| ());
+        return pair.call(call).map(|_| ());
     }
-    if rng.once_in(2) {
+    // N1: an option needs the longer image.
+    if load.has_option() && rng.once_in(4) {
         pair.lend_image(&rng.bytes(image::LEN));
+        pair.call(call)?;
+    }
+    if rng.once_in(2) || !image::holds(pair.host().image().len(), load.has_option()) {
+        draw::lend_bytes(pair, rng, load.has_option());
     }
     if rng.once_in(8) {
         let other = rng.pick(&[len - 1, len + 1, len - PAGE as usize, len + PAGE as usize]);
         pair.lend_arena(&rng.bytes(other));
-        pair.call(HostCall::Load(load))?;
+        pair.call(call)?;
     }
     pair.lend_arena(&rng.bytes(len));
-    pair.call(HostCall::Load(load))?;
+    pair.call(call)?;
     let bytes = rng.bytes(len);
     pair.edit(|session| session.lend_arena(bytes.into()));
     pair.counts.reach(loaded(&load));

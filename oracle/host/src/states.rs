@@ -38,7 +38,8 @@ pub fn play(pair: &mut Pair, rng: &mut Rng, calls: u64) -> Compared<()> {
     pair.counts.want(&LENT);
     let end = pair.counts.calls() + calls;
     while pair.counts.calls() < end {
-        pair.lend_state(states::any(rng));
+        let state = states::any(rng);
+        draw::lend_state(pair, rng, state);
         pair.counts.reach(STATES);
         for _ in 0..CALLS {
             step(pair, rng)?;

@@ -11,7 +11,7 @@ use fields::{FIELDS, bad_field, set_bits};
 use oracle::{
     generate::loads,
     host::{Host, HostCall},
-    image::LEN,
+    image::{self, LEN, LENGTHS, OPTIONS_LEN},
     layout::{Load, PAGE},
     rng::Rng,
     session::{RUN_LIMIT, Session},
@@ -31,24 +31,26 @@ struct Base {
 }
 
 impl Base {
-    fn of(session: Session) -> Self {
-        let host = Host::new(session);
-        Self { image: host.image().into(), arena: host.arena().into() }
+    /// By an image of one of the lengths that can hold it.
+    fn of(rng: &mut Rng, session: &Session) -> Self {
+        Self { image: image::of_length(session, rng.pick(image::lengths(session))), arena: session.arena().into() }
     }
 
     /// By turns a loaded board after some calls, and a state that no load reaches.
     fn nth(rng: &mut Rng, number: u64) -> Self {
         if number % 2 == 1 {
-            return Self::of(states::any(rng));
+            let state = states::any(rng);
+            return Self::of(rng, &state);
         }
         let load = loads::accepted(rng);
+        let load = loads::in_an_edition(rng, load);
         let session = Session::load(&load, load.arena_len()).unwrap_or_else(|_| unreachable!("such loads are accepted"));
         let mut host = Host::new(session);
         host.samples = vec![0; 20_000];
         for _ in 0..20 {
             host.call(draw::fit_call(rng));
         }
-        Self { image: host.image().into(), arena: host.arena().into() }
+        host.session().map(|session| Self::of(rng, session)).unwrap_or_else(|| unreachable!("a host's own image is read"))
     }
 
     /// Lends the damaged image with the base's arena or, at times, with one of the length that the image now asks for.
@@ -76,7 +78,7 @@ impl Base {
 pub fn flip_bits(pair: &mut Pair, rng: &mut Rng, bases: u64) -> Compared<()> {
     for number in 0..bases {
         let base = Base::nth(rng, number);
-        for bit in 0..LEN * 8 {
+        for bit in 0..base.image.len() * 8 {
             let mut image = base.image.clone();
             image[bit / 8] ^= 0x80 >> (bit % 8);
             base.lend(pair, rng, &image);
@@ -105,8 +107,22 @@ pub fn set_fields(pair: &mut Pair, rng: &mut Rng, bases: u64) -> Compared<()> {
         }
         entries(pair, rng, &base)?;
         used_without_reserve(pair, rng, &base)?;
+        options(pair, rng, &base)?;
     }
     Ok(())
+}
+
+/// H9, N2: the image with each of some bytes of options, the unused bits one by one among them; and cut, which leaves another state where
+/// an option was set.
+fn options(pair: &mut Pair, rng: &mut Rng, base: &Base) -> Compared<()> {
+    let mut image = base.image.clone();
+    image.resize(OPTIONS_LEN, 0);
+    for byte in [0x00, 0x80, 0x40, 0x20, 0x10, 0x08, 0x04, 0x02, 0x01, 0xC0, 0x81, 0x7F, 0xFF] {
+        image[LEN] = byte;
+        pair.counts.reach(FIELD_VALUES);
+        each_call(pair, rng, base, &image)?;
+    }
+    each_call(pair, rng, base, &image[..LEN])
 }
 
 /// One call of each kind that reads the image, each on the damaged one.
@@ -163,10 +179,12 @@ pub fn random_images(pair: &mut Pair, rng: &mut Rng, calls: u64) -> Compared<()>
         }
         let mut image = base.image.clone();
         if rng.once_in(4) {
-            image = rng.bytes(LEN);
+            let len = rng.pick(&LENGTHS);
+            image = rng.bytes(len);
         }
         for _ in 0..rng.below(3) {
-            image[rng.below(LEN as u64) as usize] = rng.byte();
+            let place = rng.below(image.len() as u64) as usize;
+            image[place] = rng.byte();
         }
         base.lend(pair, rng, &image);
         pair.counts.reach(RANDOM_IMAGES);
@@ -188,7 +206,10 @@ pub fn several_wrong(pair: &mut Pair, rng: &mut Rng, calls: u64) -> Compared<()>
             bad_field(rng, &mut image);
         }
         if rng.once_in(6) {
-            image.resize(rng.pick(&[0, 306, 308, 1_000]), 0);
+            image.resize(rng.pick(&[0, 306, 307, 308, 309, 1_000]), 0);
+        }
+        if image.len() == OPTIONS_LEN && rng.once_in(8) {
+            image[LEN] = rng.byte();
         }
         pair.lend_image(&image);
         let arena = arena(rng, &base, call);
@@ -210,7 +231,11 @@ pub fn several_wrong(pair: &mut Pair, rng: &mut Rng, calls: u64) -> Compared<()>
 fn any_call(rng: &mut Rng) -> HostCall {
     let fit = !rng.once_in(3);
     match rng.below(7) {
-        0 | 1 => HostCall::Load(if fit { loads::accepted(rng) } else { unfit_load(rng) }),
+        0 | 1 => {
+            let load = if fit { loads::accepted(rng) } else { unfit_load(rng) };
+            let load = loads::in_an_edition(rng, load);
+            draw::load(rng, load)
+        }
         2 if fit => HostCall::Reset(rng.below(2)),
         2 => HostCall::Reset(rng.pick(&[2, 3, 256, 1 << 32, (1 << 32) + 1, 1 << 63, u64::MAX])),
         3 if fit => HostCall::Run(rng.below(100)),
@@ -244,7 +269,7 @@ fn unfit_load(rng: &mut Rng) -> Load {
 /// The arena that the call wants, or one of another length.
 fn arena(rng: &mut Rng, base: &Base, call: HostCall) -> Vec<u8> {
     let len = match call {
-        HostCall::Load(load) => load.arena_len() as usize,
+        HostCall::Load(load) | HostCall::LoadOptions(load) => load.arena_len() as usize,
         _ => base.arena.len(),
     };
     let page = PAGE as usize;
