@@ -2,7 +2,8 @@
 /* The cartridge boards Namco 163, 175 and 340 of the NES (iNES mappers 19 and 210), for a C or C++ host.
  *
  * A cartridge is two blocks of bytes that the host owns and lends to each call:
- *   image  307 bytes: registers, sound chip, page tables, sizes. The library alone writes it; it may be copied and kept like any bytes.
+ *   image  307 bytes: registers, sound chip, page tables, sizes; or 308, with options (see "Options, and the two lengths of an image"
+ *          below). The library alone writes it; it may be copied and kept like any bytes.
  *   arena  the cartridge's memory: ROM, RAM and nametables, one after the other.
  * Image and arena together are the whole state, so copies of both are a save state. The library keeps nothing between calls and allocates
  * nothing.
@@ -41,14 +42,15 @@ extern "C" {
 
 /* The version of this header and of the archive that belongs to it. */
 #define NAMCO163_VERSION_MAJOR 0
-#define NAMCO163_VERSION_MINOR 7
+#define NAMCO163_VERSION_MINOR 8
 #define NAMCO163_VERSION_PATCH 0
 #define NAMCO163_TEXT_OF(x) #x
 #define NAMCO163_TEXT(x) NAMCO163_TEXT_OF(x)
 #define NAMCO163_VERSION \
     NAMCO163_TEXT(NAMCO163_VERSION_MAJOR) "." NAMCO163_TEXT(NAMCO163_VERSION_MINOR) "." NAMCO163_TEXT(NAMCO163_VERSION_PATCH)
 
-#define NAMCO163_IMAGE_SIZE 307u  /* bytes of an image */
+#define NAMCO163_IMAGE_SIZE 307u  /* bytes of an image without options */
+#define NAMCO163_OPTIONS_IMAGE_SIZE 308u /* bytes of an image with options; every call takes either */
 #define NAMCO163_PAGE_SIZE 1024u  /* bytes of a page: regions are whole pages, and page table entries show one each */
 #define NAMCO163_SAMPLE_SIZE 4u   /* bytes of a sample */
 #define NAMCO163_CLOCK_LIMIT 29781u /* clocks of one run, at most */
@@ -68,14 +70,18 @@ extern "C" {
 
 #define NAMCO163_PLACES 256u /* places of a directory of blocks */
 
+/* Bits of the options, the last byte of an image of 308 (namco163_options). */
+#define NAMCO163_F800_PROTECTS 0x80u /* writes to F800..FFFF protect the work RAM of a 163 */
+
 /* Why a call was refused, in the order in which it is checked: the first that holds is the answer. `write`, `load` stand for
- * namco163_write_blocks and namco163_load_blocks too. */
+ * namco163_write_blocks, namco163_load_options and namco163_load_blocks too. */
 enum namco163_refusals {
     NAMCO163_ACCEPTED = 0,
-    NAMCO163_IMAGE_LENGTH = 1,   /* every call with an image: its length is not 307 */
-    NAMCO163_OUT_OF_RANGE = 2,   /* read, write, preview, run, reset, stored: the image holds a field that no state has; every call with a
-                                  * directory but find: it holds a start twice or a block that cannot be registered, or has not 256 places
-                                  * (of namco163_load_blocks this last alone) */
+    NAMCO163_IMAGE_LENGTH = 1,   /* every call with an image: its length is neither 307 nor 308; a load: it is 307, and an option is asked
+                                  * for */
+    NAMCO163_OUT_OF_RANGE = 2,   /* read, write, preview, run, reset, stored: the image holds a field that no state has, or sets an unused
+                                  * bit of the options; every call with a directory but find: it holds a start twice or a block that cannot
+                                  * be registered, or has not 256 places (of namco163_load_blocks this last alone) */
     NAMCO163_RESET_KIND = 3,     /* reset: the kind is neither 0 nor 1 */
     NAMCO163_MAPPER = 4,         /* load: the mapper is neither 19 nor 210 */
     NAMCO163_SIZE = 5,           /* load: a size is above its limit */
@@ -110,6 +116,34 @@ uint64_t namco163_load(uint8_t *image, size_t image_len, uint8_t *arena, size_t 
                        uint8_t flags, uint64_t in_database, uint64_t prg_rom, uint64_t prg_ram, uint64_t battery, uint64_t chr,
                        uint64_t chr_ram, uint64_t ciram);
 
+/* ---- Options, and the two lengths of an image
+ *
+ * A cartridge has one option, which its load chooses and no later call changes:
+ *   f800_protects  what a write to F800..FFFF does to the work RAM of a 163, besides setting the sound address.
+ *                  No:  nothing; the work RAM of a 163 takes every store. This is what the emulator does that the library was made from.
+ *                  Yes: it protects, as the NESdev wiki has it of the board. A byte of 40..4F opens the work RAM, but for 2 KiB for each
+ *                       of bits 0 to 3 that is set: 6000..67FF, 6800..6FFF, 7000..77FF, 7800..7FFF. Any other byte protects all of it, and
+ *                       on a fresh 163 all is protected until such a write. A CPU write to a protected address stores nothing; reads, and
+ *                       what the host itself puts into the arena, are not hindered.
+ * With yes such a write can change page table entries: what is open has the writable flag, so masks have the bits of 6000..7FFF where it
+ * changes, and blocks there are dropped. After a hard reset the entries stay as they are until the next write that maps pages. On a 175 and
+ * a 340 the option shows in nothing.
+ *
+ * The option is kept in the image's 308th byte, so a cartridge with it needs an image of NAMCO163_OPTIONS_IMAGE_SIZE; into 307 bytes its
+ * load is refused by 1. Without the option either length will do. Every call takes both lengths, and writes the image back at the length
+ * that it was lent; 307 bytes are read as an image without options.
+ *
+ * So an image of 307 bytes may be lengthened by one byte of 0, and an image of 308 whose last byte is 0 may be cut to 307: the state is the
+ * same. Where the last byte is not 0 an image must not be cut: what is left is taken, as a cartridge without the option. */
+
+/* A load (namco163_load) that chooses the option: f800_protects is 0 for no, any other number for yes. namco163_load is this with 0.
+ * Answers the refusal number alone: 0, or 1, 4, 5, 6, 7. */
+uint64_t namco163_load_options(uint8_t *image, size_t image_len, uint8_t *arena, size_t arena_len, uint64_t mapper, uint8_t submapper,
+                               uint8_t flags, uint64_t in_database, uint64_t prg_rom, uint64_t prg_ram, uint64_t battery, uint64_t chr,
+                               uint64_t chr_ram, uint64_t ciram, uint64_t f800_protects);
+
+/* ---- The other calls */
+
 /* A CPU read of 4800..FFFF. 4800..4FFF is the sound port, and such a read may move the sound address in the image; 5000..5FFF is the IRQ
  * counter, and the rest is memory by the page table. A read from 5000 on changes nothing.
  * Answers the byte (namco163_byte), or refusal 1, 2, 7, 8. */
@@ -135,7 +169,7 @@ uint64_t namco163_run(uint8_t *image, size_t image_len, uint8_t *samples, size_t
 
 /* The console's reset: 0 soft (button), 1 hard (power). Both clear the sound chip with its RAM; hard also clears the IRQ counter, takes the
  * line down and clears the select and protect registers. No page table entry changes, but the next write that maps pages shows the first
- * page of CIRAM in all nametables of a 163.
+ * page of CIRAM in all nametables of a 163 and, after a hard reset, protects its work RAM where F800 does.
  * Answers the refusal number alone: 0, or 1, 2, 3. */
 uint64_t namco163_reset(uint8_t *image, size_t image_len, uint64_t kind);
 
@@ -160,7 +194,7 @@ uint64_t namco163_reset(uint8_t *image, size_t image_len, uint64_t kind);
  * No other call drops a block, and none goes for another reason; a registering at a held start replaces.
  *
  * A directory is out of date, and a block in it may be over other bytes than it was translated from, where the host
- *   - writes by namco163_write or loads by namco163_load, which do not see it;
+ *   - writes by namco163_write or loads by namco163_load or namco163_load_options, which do not see it;
  *   - stores into the arena itself (ROM bytes behind a load, what the PPU writes) without namco163_stored for that byte;
  *   - goes on with another image or arena, as from a save state: then it clears the directory with zeros. */
 
@@ -178,11 +212,11 @@ uint64_t namco163_lookup(const uint64_t *directory, size_t places, uint16_t star
  * start holds. */
 uint64_t namco163_find(const uint64_t *directory, size_t places, uint16_t start);
 
-/* A load (namco163_load) that also empties the directory, whatever it held.
+/* A load (namco163_load_options) that also empties the directory, whatever it held. f800_protects of 0 is the load without an option.
  * Answers the refusal number alone: 0, or 1, 2 (not 256 places), 4, 5, 6, 7. */
 uint64_t namco163_load_blocks(uint8_t *image, size_t image_len, uint8_t *arena, size_t arena_len, uint64_t *directory, size_t places,
                               uint64_t mapper, uint8_t submapper, uint8_t flags, uint64_t in_database, uint64_t prg_rom, uint64_t prg_ram,
-                              uint64_t battery, uint64_t chr, uint64_t chr_ram, uint64_t ciram);
+                              uint64_t battery, uint64_t chr, uint64_t chr_ram, uint64_t ciram, uint64_t f800_protects);
 
 /* A CPU write (namco163_write) that also drops blocks. The answer, image and arena are those of namco163_write; refusal 1, 2 (of the image
  * or of the directory), 7, 8. Which blocks went is not in the answer: their starts find none from now on. */
@@ -224,7 +258,8 @@ static inline uint32_t namco163_block_number(uint64_t answer) { return (uint32_t
 /* What a refusal number means, in words. */
 static inline const char *namco163_refusal_text(unsigned refusal) {
     static const char *const texts[] = {
-        "accepted", "the image is not 307 bytes long", "the image holds a field out of range, or the directory is unfit",
+        "accepted", "the image is neither 307 nor 308 bytes long, or 307 where an option wants the 308th",
+        "the image holds a field out of range or an unused option bit, or the directory is unfit",
         "the reset kind is neither 0 nor 1",
         "the mapper is neither 19 nor 210", "a size is above its limit", "mapper 19 needs a battery reserve of 1 byte or more",
         "the arena's length is not that of the sizes", "the CPU address is below $4800", "the fill is longer than its region",
@@ -255,7 +290,7 @@ static inline float namco163_sample(const uint8_t *bytes) {
 /* Where each region starts in the arena, and the arena's length, in bytes. The order is: a page that unmapped addresses show, PRG-ROM, CHR
  * if it is ROM, PRG-RAM, battery reserve, CHR if it is RAM, CIRAM (the nametables). A host writes ROM bytes at prg_rom and chr. What a
  * battery keeps is the PRG-RAM, at prg_ram, and of a 163 also the 128 bytes of sound RAM, image bytes 23 on, which go back by writes to
- * F800 and 4800. */
+ * F800 and 4800 (the former may protect work RAM, see namco163_load_options). */
 struct namco163_arena {
     size_t prg_rom, chr, prg_ram, battery, ciram, length;
 };
@@ -314,6 +349,11 @@ static inline struct namco163_page namco163_prg_entry(const uint8_t *image, uint
  * itself. */
 static inline struct namco163_page namco163_chr_entry(const uint8_t *image, uint16_t addr) {
     return namco163_entry(image, NAMCO163_PRG_PAGES + addr / NAMCO163_PAGE_SIZE % NAMCO163_CHR_PAGES);
+}
+
+/* The options of an image of so many bytes, NAMCO163_F800_PROTECTS or 0. An image of 307 bytes has none. */
+static inline unsigned namco163_options(const uint8_t *image, size_t image_len) {
+    return image_len == NAMCO163_OPTIONS_IMAGE_SIZE ? image[NAMCO163_IMAGE_SIZE] & NAMCO163_F800_PROTECTS : 0;
 }
 
 /* 1 while the board holds the IRQ line up, else 0. */

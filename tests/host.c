@@ -1,5 +1,5 @@
 /* SPDX-License-Identifier: MIT OR Apache-2.0 */
-/* The twelve calls and the header's helpers, from C99 and C++11: answers, refusals in their order, and what a refused call leaves as it
+/* The thirteen calls and the header's helpers, from C99 and C++11: answers, refusals in their order, and what a refused call leaves as it
  * was. */
 #include <stdio.h>
 #include <stdlib.h>
@@ -9,10 +9,11 @@
 /* T0: layout P, 52 pages; BARE is without PRG-RAM, 44 pages. */
 enum { ARENA = 53248, BARE = 45056, SAMPLES = 4 * NAMCO163_MOST_SAMPLES + 3 };
 
-static uint8_t image[NAMCO163_IMAGE_SIZE + 1], arena[ARENA + 1], samples[SAMPLES];
+static uint8_t image[NAMCO163_OPTIONS_IMAGE_SIZE + 1], arena[ARENA + 1], samples[SAMPLES];
 static uint8_t image_before[sizeof image], arena_before[sizeof arena], samples_before[sizeof samples];
 static uint64_t directory[NAMCO163_PLACES + 1], directory_before[NAMCO163_PLACES + 1];
 static size_t lent = ARENA; /* how much of the arena reads and writes get: as much as the last load */
+static size_t image_lent = NAMCO163_IMAGE_SIZE; /* how much of the image calls get: as much as the last load */
 static int checks, failures;
 
 #define CHECK(what) check(what, #what, __LINE__)
@@ -34,26 +35,28 @@ static void equal(uint64_t got, uint64_t expected, const char *what, int line) {
 
 static uint64_t load(uint64_t mapper, uint64_t known, uint64_t prg_rom, uint64_t battery) {
     lent = ARENA;
+    image_lent = NAMCO163_IMAGE_SIZE;
     return namco163_load(image, NAMCO163_IMAGE_SIZE, arena, ARENA, mapper, 0, 0, known, prg_rom, 8192, battery, 8192, 0, 2048);
 }
 static uint64_t load_bare(uint64_t mapper, uint8_t submapper, uint64_t known) {
     lent = BARE;
+    image_lent = NAMCO163_IMAGE_SIZE;
     return namco163_load(image, NAMCO163_IMAGE_SIZE, arena, BARE, mapper, submapper, 0, known, 32768, 0, 128, 8192, 0, 2048);
 }
-static uint64_t read_at(unsigned addr) { return namco163_read(image, NAMCO163_IMAGE_SIZE, arena, lent, (uint16_t)addr); }
+static uint64_t read_at(unsigned addr) { return namco163_read(image, image_lent, arena, lent, (uint16_t)addr); }
 static uint64_t write_at(unsigned addr, unsigned val) {
-    return namco163_write(image, NAMCO163_IMAGE_SIZE, arena, lent, (uint16_t)addr, (uint8_t)val);
+    return namco163_write(image, image_lent, arena, lent, (uint16_t)addr, (uint8_t)val);
 }
 static uint64_t preview_of(const uint8_t *of_image, const uint8_t *of_arena, unsigned addr, unsigned val) {
-    return namco163_preview(of_image, NAMCO163_IMAGE_SIZE, of_arena, lent, (uint16_t)addr, (uint8_t)val);
+    return namco163_preview(of_image, image_lent, of_arena, lent, (uint16_t)addr, (uint8_t)val);
 }
 static uint64_t preview(unsigned addr, unsigned val) { return preview_of(image, arena, addr, val); }
-static uint64_t run(uint64_t clocks) { return namco163_run(image, NAMCO163_IMAGE_SIZE, samples, SAMPLES, clocks); }
+static uint64_t run(uint64_t clocks) { return namco163_run(image, image_lent, samples, SAMPLES, clocks); }
 static void set_counter(unsigned counter) {
     EQUAL(write_at(0x5000, counter & 0xFF), 0);
     EQUAL(write_at(0x5800, counter >> 8), 0);
 }
-static uint64_t reset(uint64_t kind) { return namco163_reset(image, NAMCO163_IMAGE_SIZE, kind); }
+static uint64_t reset(uint64_t kind) { return namco163_reset(image, image_lent, kind); }
 
 static void keep(void) {
     memcpy(image_before, image, sizeof image);
@@ -451,7 +454,7 @@ static void test_refused_previews(void) {
     image[152] |= 0x78; /* an update counter of 15 */
     keep();
     EQUAL(namco163_preview(lent_image, 306, lent_arena, 0, 0, 0), NAMCO163_IMAGE_LENGTH);
-    EQUAL(namco163_preview(lent_image, 308, lent_arena, ARENA, 0x8000, 0xE1), NAMCO163_IMAGE_LENGTH);
+    EQUAL(namco163_preview(lent_image, 309, lent_arena, ARENA, 0x8000, 0xE1), NAMCO163_IMAGE_LENGTH);
     EQUAL(namco163_preview(lent_image, 307, lent_arena, 0, 0, 0), NAMCO163_OUT_OF_RANGE);
     EQUAL(preview_of(lent_image, lent_arena, 0x8000, 0xE1), NAMCO163_OUT_OF_RANGE);
     CHECK(kept());
@@ -469,8 +472,9 @@ static void test_refused_previews(void) {
 
 static uint64_t load_blocks(uint64_t mapper, uint8_t submapper, uint64_t known, uint64_t prg_rom, uint64_t prg_ram) {
     lent = namco163_arena_length(prg_rom, prg_ram, 128, 8192, 2048);
+    image_lent = NAMCO163_IMAGE_SIZE;
     return namco163_load_blocks(image, NAMCO163_IMAGE_SIZE, arena, lent, directory, NAMCO163_PLACES, mapper, submapper, 0, known, prg_rom,
-                                prg_ram, 128, 8192, 0, 2048);
+                                prg_ram, 128, 8192, 0, 2048, 0);
 }
 static uint64_t load_p_blocks(void) { return load_blocks(19, 0, 1, 32768, 8192); }
 static uint64_t add(unsigned start, uint64_t length, uint32_t number) {
@@ -479,9 +483,9 @@ static uint64_t add(unsigned start, uint64_t length, uint32_t number) {
 static uint64_t lookup(unsigned start) { return namco163_lookup(directory, NAMCO163_PLACES, (uint16_t)start); }
 static uint64_t find(unsigned start) { return namco163_find(directory, NAMCO163_PLACES, (uint16_t)start); }
 static uint64_t write_blocks(unsigned addr, unsigned val) {
-    return namco163_write_blocks(image, NAMCO163_IMAGE_SIZE, arena, lent, directory, NAMCO163_PLACES, (uint16_t)addr, (uint8_t)val);
+    return namco163_write_blocks(image, image_lent, arena, lent, directory, NAMCO163_PLACES, (uint16_t)addr, (uint8_t)val);
 }
-static uint64_t stored(uint64_t offset) { return namco163_stored(image, NAMCO163_IMAGE_SIZE, directory, NAMCO163_PLACES, offset); }
+static uint64_t stored(uint64_t offset) { return namco163_stored(image, image_lent, directory, NAMCO163_PLACES, offset); }
 
 /* Registers a block of 16 bytes at each start, with its place in the list as its number. */
 static void add_each(const uint16_t *starts, size_t count) {
@@ -762,18 +766,20 @@ static void test_refused_blocks(void) {
     EQUAL(load_p_blocks(), 0);
     EQUAL(add(0x8000, 16, 7), 0);
     keep();
-    EQUAL(namco163_load_blocks(image, 306, arena, 0, directory, 255, 20, 0, 0, 1, 524289, 0, 0, 0, 0, 0), NAMCO163_IMAGE_LENGTH);
-    EQUAL(namco163_load_blocks(image, 307, arena, 0, directory, 255, 20, 0, 0, 1, 524289, 0, 0, 0, 0, 0), NAMCO163_OUT_OF_RANGE);
-    EQUAL(namco163_load_blocks(image, 307, arena, lent, directory, 257, 19, 0, 0, 1, 32768, 8192, 128, 8192, 0, 0), NAMCO163_OUT_OF_RANGE);
-    EQUAL(namco163_load_blocks(image, 307, arena, 0, directory, 256, 20, 0, 0, 1, 524289, 0, 0, 0, 0, 0), NAMCO163_MAPPER);
-    EQUAL(namco163_load_blocks(image, 307, arena, 0, directory, 256, 19, 0, 0, 1, 524289, 0, 0, 0, 0, 0), NAMCO163_SIZE);
-    EQUAL(namco163_load_blocks(image, 307, arena, 0, directory, 256, 19, 0, 0, 1, 32768, 0, 0, 0, 0, 0), NAMCO163_NO_BATTERY);
-    EQUAL(namco163_load_blocks(image, 307, arena, 0, directory, 256, 19, 0, 0, 1, 32768, 8192, 128, 8192, 0, 2048), NAMCO163_ARENA_LENGTH);
-    EQUAL(namco163_write_blocks(image, 308, arena, 0, directory, 256, 0, 0), NAMCO163_IMAGE_LENGTH);
+    EQUAL(namco163_load_blocks(image, 306, arena, 0, directory, 255, 20, 0, 0, 1, 524289, 0, 0, 0, 0, 0, 0), NAMCO163_IMAGE_LENGTH);
+    EQUAL(namco163_load_blocks(image, 307, arena, 0, directory, 255, 20, 0, 0, 1, 524289, 0, 0, 0, 0, 0, 0), NAMCO163_OUT_OF_RANGE);
+    EQUAL(namco163_load_blocks(image, 307, arena, lent, directory, 257, 19, 0, 0, 1, 32768, 8192, 128, 8192, 0, 0, 0),
+          NAMCO163_OUT_OF_RANGE);
+    EQUAL(namco163_load_blocks(image, 307, arena, 0, directory, 256, 20, 0, 0, 1, 524289, 0, 0, 0, 0, 0, 0), NAMCO163_MAPPER);
+    EQUAL(namco163_load_blocks(image, 307, arena, 0, directory, 256, 19, 0, 0, 1, 524289, 0, 0, 0, 0, 0, 0), NAMCO163_SIZE);
+    EQUAL(namco163_load_blocks(image, 307, arena, 0, directory, 256, 19, 0, 0, 1, 32768, 0, 0, 0, 0, 0, 0), NAMCO163_NO_BATTERY);
+    EQUAL(namco163_load_blocks(image, 307, arena, 0, directory, 256, 19, 0, 0, 1, 32768, 8192, 128, 8192, 0, 2048, 0),
+          NAMCO163_ARENA_LENGTH);
+    EQUAL(namco163_write_blocks(image, 309, arena, 0, directory, 256, 0, 0), NAMCO163_IMAGE_LENGTH);
     EQUAL(namco163_write_blocks(image, 307, arena, ARENA - 1, directory, 256, 0, 0), NAMCO163_ARENA_LENGTH);
     EQUAL(namco163_write_blocks(image, 307, arena, ARENA + 1, directory, 256, 0xE000, 1), NAMCO163_ARENA_LENGTH);
     EQUAL(write_blocks(0x47FF, 0), NAMCO163_ADDRESS);
-    EQUAL(namco163_stored(image, 308, directory, 256, 1024), NAMCO163_IMAGE_LENGTH);
+    EQUAL(namco163_stored(image, 309, directory, 256, 1024), NAMCO163_IMAGE_LENGTH);
     CHECK(kept());
     image[152] |= 0x78; /* an update counter of 15 */
     keep();
@@ -782,11 +788,341 @@ static void test_refused_blocks(void) {
     CHECK(kept());
 }
 
+/* ---- Options, and the two lengths of an image */
+
+/* A load of layout P with so much PRG-RAM, by an image of so many bytes and the call with options. */
+static uint64_t load_edition(size_t image_len, uint64_t mapper, uint8_t submapper, uint64_t known, uint64_t prg_ram, uint64_t yes) {
+    lent = namco163_arena_length(32768, prg_ram, 128, 8192, 2048);
+    image_lent = image_len;
+    return namco163_load_options(image, image_len, arena, lent, mapper, submapper, 0, known, 32768, prg_ram, 128, 8192, 0, 2048, yes);
+}
+/* P, D and U of the new edition. */
+static uint64_t load_new(uint64_t mapper, uint64_t known) { return load_edition(308, mapper, 0, known, 8192, 1); }
+
+/* Which of PRG entries 24..31 take stores: bit k is set for entry 24 + k. */
+static unsigned open_entries(void) {
+    unsigned mask = 0, k;
+    for (k = 0; k < 8; k++) mask |= (unsigned)namco163_entry(image, 24 + k).writable << k;
+    return mask;
+}
+
+/* Whether PRG entries 24..31 show so many pages from page 41 on, again and again; of no page, byte 0. */
+static int work_ram(unsigned pages) {
+    unsigned k;
+    for (k = 0; k < 8; k++)
+        if (namco163_entry(image, 24 + k).offset != (pages ? (41 + k % pages) * 1024u : 0u)) return 0;
+    return 1;
+}
+
+/* The protect byte and the sound address, as the image has them (H1). */
+static unsigned protect(void) { return (unsigned)((image[2] << 8 | image[3]) >> 5 & 0xFF); }
+static unsigned sound_address(void) { return image[151] >> 1; }
+
+/* A write, its word, and which entries of 24..31 are open behind it. */
+struct step {
+    unsigned addr, val;
+    uint64_t word;
+    unsigned open;
+};
+static void make(const struct step *steps, size_t count) {
+    size_t k;
+    for (k = 0; k < count; k++) {
+        EQUAL(preview(steps[k].addr, steps[k].val), steps[k].word);
+        EQUAL(write_at(steps[k].addr, steps[k].val), steps[k].word);
+        EQUAL(open_entries(), steps[k].open);
+    }
+}
+#define MAKE(steps) make(steps, sizeof(steps) / sizeof(steps)[0])
+
+static void test_options(void) {
+    static const uint8_t zeros[NAMCO163_OPTIONS_IMAGE_SIZE] = {0};
+    EQUAL(NAMCO163_IMAGE_SIZE, 307);
+    EQUAL(NAMCO163_OPTIONS_IMAGE_SIZE, 308);
+    EQUAL(namco163_options(zeros, 308), 0);
+    EQUAL(load_new(19, 1), 0);
+    EQUAL(image[307], 0x80);
+    EQUAL(namco163_options(image, 308), NAMCO163_F800_PROTECTS);
+    EQUAL(namco163_options(image, 307), 0);
+    EQUAL(load_edition(308, 19, 0, 1, 8192, 0), 0);
+    EQUAL(image[307], 0x00);
+    EQUAL(namco163_options(image, 308), 0);
+    CHECK(!strcmp(namco163_refusal_text(1), "the image is neither 307 nor 308 bytes long, or 307 where an option wants the 308th"));
+    CHECK(!strcmp(namco163_refusal_text(2), "the image holds a field out of range or an unused option bit, or the directory is unfit"));
+}
+
+/* N1, N20, H10: loads into images of each length, by the call with options and by that with a directory. What a refused one was lent stays;
+ * an accepted one writes no byte behind its image. */
+static void test_option_loads(void) {
+    static const struct {
+        size_t image_len;
+        uint64_t mapper, prg_rom, battery, f800_protects, answer;
+        unsigned options; /* of an accepted load, what byte 307 becomes */
+    } loads[] = {
+        {307, 19, 32768, 128, 0, 0, 0xA5}, {308, 19, 32768, 128, 0, 0, 0x00}, {308, 19, 32768, 128, 1, 0, 0x80},
+        {308, 19, 32768, 128, 256, 0, 0x80}, {308, 210, 32768, 128, (uint64_t)1 << 63, 0, 0x80}, {307, 19, 32768, 128, 1, 1, 0},
+        {307, 19, 32768, 128, (uint64_t)1 << 32, 1, 0}, {307, 20, 524289, 0, 1, 1, 0}, {307, 20, 524289, 0, 0, 4, 0},
+        {308, 20, 524289, 0, 1, 4, 0}, {308, 19, 524289, 0, 1, 5, 0}, {308, 19, ((uint64_t)1 << 32) + 32768, 128, 1, 5, 0},
+        {308, 19, 32768, 0, 1, 6, 0}, {308, 19, 1024, 128, 1, 7, 0}, {306, 19, 32768, 128, 0, 1, 0}, {309, 19, 32768, 128, 0, 1, 0},
+        {306, 19, 32768, 128, 1, 1, 0}, {309, 20, 32768, 128, 1, 1, 0}, {0, 19, 32768, 128, 0, 1, 0},
+    };
+    size_t k;
+    for (k = 0; k < 2 * sizeof loads / sizeof loads[0]; k++) {
+        size_t at = k / 2, len = loads[at].image_len;
+        uint64_t rom = loads[at].prg_rom, mapper = loads[at].mapper, bytes = loads[at].battery, yes = loads[at].f800_protects;
+        memset(image, 0xA5, sizeof image);
+        memset(directory, 0, sizeof directory);
+        keep();
+        EQUAL(k % 2 ? namco163_load_blocks(image, len, arena, ARENA, directory, 256, mapper, 0, 0, 1, rom, 8192, bytes, 8192, 0, 0, yes)
+                    : namco163_load_options(image, len, arena, ARENA, mapper, 0, 0, 1, rom, 8192, bytes, 8192, 0, 0, yes),
+              loads[at].answer);
+        if (loads[at].answer) CHECK(kept());
+        else CHECK(image[307] == loads[at].options && image[308] == 0xA5);
+    }
+    EQUAL(namco163_load_blocks(image, 307, arena, ARENA, directory, 255, 19, 0, 0, 1, 32768, 8192, 128, 8192, 0, 2048, 1), 1);
+    EQUAL(namco163_load_blocks(image, 308, arena, ARENA, directory, 255, 19, 0, 0, 1, 32768, 8192, 128, 8192, 0, 2048, 1), 2);
+    EQUAL(namco163_load(image, 308, arena, ARENA, 19, 0, 0, 1, 32768, 8192, 128, 8192, 0, 2048), 0);
+    CHECK(image[307] == 0 && image[308] == 0xA5);
+}
+
+/* H1, H9: the image of a fresh P in both editions: entries 24..31 and the options; the first 307 bytes are those of the shorter one. */
+static void test_fresh_editions(void) {
+    static const uint8_t new_entries[11] = {0x0A, 0x41, 0x50, 0x2B, 0x05, 0x80, 0xB4, 0x17, 0x02, 0xF0, 0x60};
+    static const uint8_t old_entries[11] = {0x0A, 0x61, 0x54, 0x2B, 0x85, 0x90, 0xB6, 0x17, 0x42, 0xF8, 0x61};
+    EQUAL(load_new(19, 1), 0);
+    CHECK(!memcmp(image + 226, new_entries, 11) && image[307] == 0x80);
+    CHECK(open_entries() == 0 && work_ram(8));
+    EQUAL(write_at(0x6000, 0x11), 0);
+    EQUAL(read_at(0x6000), 0);
+    EQUAL(load_edition(308, 19, 0, 1, 8192, 0), 0);
+    CHECK(!memcmp(image + 226, old_entries, 11) && image[307] == 0x00);
+    CHECK(open_entries() == 0xFF && work_ram(8));
+    keep();
+    EQUAL(load(19, 1, 32768, 128), 0);
+    CHECK(!memcmp(image, image_before, 307));
+}
+
+/* L20, L21: one byte after the other on a fresh P; writes that map keep the flags. */
+static void test_f800(void) {
+    static const struct step steps[] = {
+        {0xF800, 0x40, 0xFF000000, 0xFF}, {0xF800, 0x41, 0x3000000, 0xFC}, {0xFFFF, 0x48, 0xC3000000, 0x3F},
+        {0xF800, 0x4F, 0x3F000000, 0x00}, {0xF800, 0x4E, 0x3000000, 0x03}, {0xF800, 0x00, 0x3000000, 0x00},
+        {0xF800, 0xC0, 0, 0x00},          {0xF800, 0x50, 0, 0x00},         {0xF800, 0x44, 0xCF000000, 0xCF},
+        {0xF800, 0x44, 0, 0xCF},          {0x8000, 0x00, 0, 0xCF},         {0xE000, 0x01, 0xFF00000000, 0xCF},
+        {0x4800, 0x00, 0, 0xCF},          {0x6000, 0x61, 0, 0xCF},         {0x7000, 0x62, 0, 0xCF},
+    };
+    unsigned byte, part;
+    EQUAL(load_new(19, 1), 0);
+    MAKE(steps);
+    CHECK(read_at(0x6000) == 0x6100 && read_at(0x7000) == 0 && work_ram(8));
+    EQUAL(load(19, 1, 32768, 128), 0);
+    for (byte = 0; byte < 10; byte++) {
+        EQUAL(write_at(steps[byte].addr, steps[byte].val), 0);
+        CHECK(open_entries() == 0xFF && protect() == steps[byte].val);
+    }
+    for (byte = 0; byte < 256; byte++) {
+        EQUAL(load_new(19, 1), 0);
+        CHECK(namco163_refusal(write_at(0xF800, byte)) == 0 && protect() == byte && sound_address() == (byte & 0x7F));
+        for (part = 0; part < 4; part++) {
+            unsigned addr = 0x6000 + 0x800 * part;
+            uint64_t stays = byte >> 4 == 4 && !(byte >> part & 1) ? 0x5A00 : 0;
+            CHECK(write_at(addr, 0x5A) == 0 && write_at(addr + 0x7FF, 0x5A) == 0);
+            CHECK(read_at(addr) == stays && read_at(addr + 0x7FF) == stays);
+        }
+    }
+}
+
+/* C7, C8, L22: a hard reset stores 0 and maps nothing, a soft one keeps the byte; then F800 also brings CHR entries 8..15. */
+static void test_f800_resets(void) {
+    static const struct step before[] = {{0xF800, 0x40, 0xFF000000, 0xFF}, {0xC000, 0x05, 0x110000, 0xFF}};
+    static const struct step hard[] = {{0x6000, 0xAA, 0, 0xFF}, {0xF800, 0x00, 0xFFFF0000, 0}, {0x8000, 0x00, 0, 0}, {0x6000, 0xBB, 0, 0}};
+    static const struct step old_before[] = {{0xF800, 0x40, 0, 0xFF}, {0xC000, 0x05, 0x110000, 0xFF}};
+    static const struct step old_hard[] = {
+        {0x6000, 0xAA, 0, 0xFF}, {0xF800, 0x00, 0, 0xFF}, {0x8000, 0x00, 0xFF0000, 0xFF}, {0x6000, 0xBB, 0, 0xFF}};
+    static const struct step soft[] = {{0x6001, 0xAB, 0, 0xFF}, {0xF800, 0x42, 0xCFF0000, 0xF3}};
+    EQUAL(load_new(19, 1), 0);
+    MAKE(before);
+    EQUAL(reset(NAMCO163_HARD), 0);
+    CHECK(open_entries() == 0xFF && protect() == 0 && namco163_options(image, 308) == NAMCO163_F800_PROTECTS);
+    MAKE(hard);
+    EQUAL(read_at(0x6000), 0xAA00);
+    EQUAL(load(19, 1, 32768, 128), 0);
+    MAKE(old_before);
+    EQUAL(reset(NAMCO163_HARD), 0);
+    MAKE(old_hard);
+    EQUAL(read_at(0x6000), 0xBB00);
+    EQUAL(load_new(19, 1), 0);
+    MAKE(before);
+    EQUAL(reset(NAMCO163_SOFT), 0);
+    CHECK(open_entries() == 0xFF && protect() == 0x40 && sound_address() == 0);
+    MAKE(soft);
+    EQUAL(read_at(0x6001), 0xAB00);
+}
+
+/* L6, L16, L20: a board that detects. A dropped store settles a 340, which takes no F800; a 163's or 175's byte serves the next 163. */
+static void test_f800_detection(void) {
+    static const struct step settling[] = {{0x6000, 0x55, 0, 0}, {0xE000, 0x80, 0xFFFF0000, 0}, {0xF800, 0x40, 0, 0}};
+    static const struct step found[] = {{0xF800, 0x4D, 0xFFCC0000, 0x0C}};
+    static const struct step serving[] = {
+        {0xF800, 0x40, 0xFF000000, 0xFF}, {0xE000, 0x80, 0xFFFF0000, 0x00}, {0x4800, 0x00, 0xFFFF0000, 0xFF},
+        {0xE000, 0x80, 0xFFFF0000, 0x00}, {0xC000, 0x03, 0xFF000000, 0xFF}, {0xC800, 0xE0, 0xFFDD0000, 0x00},
+    };
+    EQUAL(load_new(19, 0), 0);
+    MAKE(settling);
+    CHECK(namco163_board(image) == NAMCO163_340 && namco163_settled(image) && protect() == 0 && sound_address() == 0);
+    EQUAL(read_at(0x6000), 0);
+    EQUAL(reset(NAMCO163_SOFT), 0);
+    MAKE(found);
+    EQUAL(namco163_board(image), NAMCO163_163);
+    EQUAL(load_new(19, 0), 0);
+    MAKE(serving);
+    CHECK(namco163_board(image) == NAMCO163_163 && protect() == 0x03);
+}
+
+/* L11, L20, L21: an Unknown becomes a 163, by way of a 175 or at once, in both editions. */
+static void test_f800_unknown(void) {
+    static const struct step odd[] = {{0xC000, 0x01, 0xFF000000, 0xFF}, {0xC800, 0xE1, 0xFFFF0000, 0x00}, {0xF800, 0x40, 0xFF000000, 0xFF}};
+    static const struct step old_odd[] = {{0xC000, 0x01, 0xFF000000, 0xFF}, {0xC800, 0xE1, 0xFF0000, 0xFF}, {0xF800, 0x40, 0, 0xFF}};
+    static const struct step even[] = {{0xC000, 0x40, 0xFF000000, 0x00}, {0x5000, 0x00, 0xFFFF0000, 0xFF}};
+    static const struct step by_4800[] = {{0x4800, 0x00, 0xFFFF0000, 0x00}};
+    static const struct step old_by_4800[] = {{0x4800, 0x00, 0xFFFF0000, 0xFF}};
+    static const struct step by_f800[] = {{0xF800, 0x47, 0xFFFF0000, 0xC0}};
+    static const struct step old_by_f800[] = {{0xF800, 0x47, 0xFFFF0000, 0xFF}};
+    EQUAL(load_new(210, 0), 0);
+    MAKE(odd);
+    EQUAL(load(210, 0, 32768, 128), 0);
+    MAKE(old_odd);
+    EQUAL(load_new(210, 0), 0);
+    MAKE(even);
+    EQUAL(load_new(210, 0), 0);
+    MAKE(by_4800);
+    EQUAL(load(210, 0, 32768, 128), 0);
+    MAKE(old_by_4800);
+    EQUAL(load_new(210, 0), 0);
+    MAKE(by_f800);
+    EQUAL(load(210, 0, 32768, 128), 0);
+    MAKE(old_by_f800);
+}
+
+/* L21: a fixed 175 and a fixed 340 are alike in both editions. */
+static void test_f800_fixed(void) {
+    static const struct step n175[] = {
+        {0xF800, 0x40, 0, 0}, {0xC000, 0x40, 0, 0}, {0xC000, 0x41, 0xFF000000, 0xFF}, {0xF800, 0x4F, 0, 0xFF}};
+    static const struct step n340[] = {{0xF800, 0x40, 0, 0}, {0xC000, 0x41, 0, 0}};
+    uint64_t yes;
+    for (yes = 0; yes < 2; yes++) {
+        EQUAL(load_edition(308, 210, 1, 0, 8192, yes), 0);
+        MAKE(n175);
+        CHECK(protect() == 0x41 && namco163_options(image, 308) == (yes ? NAMCO163_F800_PROTECTS : 0));
+        EQUAL(load_edition(308, 210, 2, 0, 8192, yes), 0);
+        MAKE(n340);
+        EQUAL(protect(), 0);
+    }
+}
+
+/* M1, L20: parts are of addresses; PRG-RAM of 1, 2 and 3 pages, and of none (M5). */
+static void test_f800_short(void) {
+    unsigned pages;
+    for (pages = 1; pages < 4; pages++) {
+        EQUAL(load_edition(308, 19, 0, 1, 1024 * pages, 1), 0);
+        EQUAL(write_at(0xF800, 0x4E), 0x3000000);
+        CHECK(open_entries() == 0x03 && work_ram(pages));
+    }
+    EQUAL(load_edition(308, 19, 0, 1, 1024, 1), 0);
+    EQUAL(write_at(0xF800, 0x4E), 0x3000000);
+    EQUAL(write_at(0x7C00, 0x11), 0);
+    EQUAL(read_at(0x6000), 0);
+    EQUAL(write_at(0x6000, 0x22), 0);
+    CHECK(read_at(0x6000) == 0x2200 && read_at(0x6400) == 0x2200 && read_at(0x7C00) == 0x2200);
+    EQUAL(load_edition(308, 19, 0, 1, 0, 1), 0);
+    for (pages = 0x40; pages < 0x50; pages++) {
+        CHECK(write_at(0xF800, pages) == 0 && open_entries() == 0 && work_ram(0));
+        CHECK(write_at(0x6000, 0x22) == 0 && read_at(0x6000) == 0 && arena[0] == 0);
+    }
+}
+
+/* K5: a flag that changes drops the blocks over it; a store that is dropped drops none; an open address drops those of a protected one
+ * that shows the same page. */
+static void test_f800_blocks(void) {
+    static const uint16_t starts[6] = {0x6000, 0x6400, 0x6800, 0x77F8, 0x7C00, 0x8000};
+    EQUAL(load_new(19, 1), 0);
+    memset(directory, 0, sizeof directory);
+    add_each(starts, 6);
+    EQUAL(write_blocks(0x6000, 0x55), 0);
+    EQUAL(write_blocks(0xF800, 0x0F), 0);
+    EQUAL(held(starts, 6), 0x3F);
+    EQUAL(write_blocks(0xF800, 0x4E), 0x3000000);
+    EQUAL(held(starts, 6), 0x3C);
+    EQUAL(write_blocks(0xF800, 0x46), 0xC0000000);
+    EQUAL(held(starts, 6), 0x24);
+    EQUAL(load_edition(308, 19, 0, 1, 1024, 1), 0);
+    EQUAL(write_at(0xF800, 0x4E), 0x3000000);
+    memset(directory, 0, sizeof directory);
+    add_each(starts, 6);
+    EQUAL(write_blocks(0x7C00, 0x55), 0);
+    EQUAL(held(starts, 6), 0x3F);
+    EQUAL(write_blocks(0x6000, 0x55), 0);
+    EQUAL(held(starts, 6), 0x20);
+    EQUAL(load_p_blocks(), 0);
+    add_each(starts, 6);
+    EQUAL(write_blocks(0xF800, 0x41), 0);
+    EQUAL(held(starts, 6), 0x3F);
+}
+
+/* N1, N2: what every call that reads an image answers to so many bytes of it; all that is lent stays. */
+static void check_image(size_t len, uint64_t answer) {
+    keep();
+    EQUAL(namco163_read(image, len, arena, 0, 0), answer);
+    EQUAL(namco163_write(image, len, arena, 0, 0, 0), answer);
+    EQUAL(namco163_preview(image, len, arena, 0, 0, 0), answer);
+    EQUAL(namco163_run(image, len, samples, 0, NAMCO163_CLOCK_LIMIT + 1), answer);
+    EQUAL(namco163_reset(image, len, 2), answer);
+    EQUAL(namco163_write_blocks(image, len, arena, 0, directory, 255, 0, 0), answer);
+    EQUAL(namco163_stored(image, len, directory, 255, 0), answer);
+    CHECK(kept());
+}
+
+/* H10: lengths, unused bits, and images that are lengthened and cut. Calls write back at the length that they were lent. */
+static void test_image_lengths(void) {
+    unsigned bit;
+    uint8_t options;
+    EQUAL(load_new(19, 1), 0);
+    check_image(306, NAMCO163_IMAGE_LENGTH);
+    check_image(309, NAMCO163_IMAGE_LENGTH);
+    check_image(0, NAMCO163_IMAGE_LENGTH);
+    for (bit = 0; bit < 7; bit++) {
+        image[307] = (uint8_t)(0x80 | 1 << bit);
+        check_image(308, NAMCO163_OUT_OF_RANGE);
+        image[307] = (uint8_t)(1 << bit);
+        check_image(308, NAMCO163_OUT_OF_RANGE);
+    }
+    for (options = 0; options < 2; options++) {
+        EQUAL(load(19, 1, 32768, 128), 0);
+        image[307] = 0x00;
+        image[308] = 0xA5;
+        image_lent = options ? 308 : 307; /* lengthened by 0, or as it was */
+        EQUAL(write_at(0xF800, 0x41), 0);
+        EQUAL(run(15), 0x100);
+        EQUAL(reset(NAMCO163_SOFT), 0);
+        CHECK(open_entries() == 0xFF && image[307] == 0x00 && image[308] == 0xA5);
+        keep();
+        image_lent = 307; /* cut, with the last byte 0 */
+        EQUAL(read_at(0x5000), 0);
+        CHECK(kept());
+    }
+    EQUAL(load_new(19, 1), 0);
+    image_lent = 307; /* cut, with the last byte not 0: the old edition, with the entries that it had */
+    EQUAL(write_at(0xF800, 0x40), 0);
+    EQUAL(open_entries(), 0);
+    EQUAL(write_at(0x8000, 0x00), 0xFF000000);
+    EQUAL(open_entries(), 0xFF);
+    EQUAL(image[307], 0x80);
+}
+
 /* N20: refusals of a load, in their order: 1 4 5 6 7. */
 static void test_refused_loads(void) {
     keep();
     EQUAL(namco163_load(image, 306, arena, 0, 20, 0, 0, 1, 524289, 0, 0, 0, 0, 0), NAMCO163_IMAGE_LENGTH);
-    EQUAL(namco163_load(image, 308, arena, ARENA, 19, 0, 0, 1, 32768, 8192, 128, 8192, 0, 2048), NAMCO163_IMAGE_LENGTH);
+    EQUAL(namco163_load(image, 309, arena, ARENA, 19, 0, 0, 1, 32768, 8192, 128, 8192, 0, 2048), NAMCO163_IMAGE_LENGTH);
     EQUAL(load(20, 1, 524289, 0), NAMCO163_MAPPER);
     EQUAL(load(65555, 1, 32768, 128), NAMCO163_MAPPER);
     EQUAL(load(19, 1, 524289, 0), NAMCO163_SIZE);
@@ -806,7 +1142,7 @@ static void test_refused_calls(void) {
     EQUAL(namco163_read(image, 306, arena, 0, 0), NAMCO163_IMAGE_LENGTH);
     EQUAL(namco163_read(image, 307, arena, ARENA - 1, 0), NAMCO163_ARENA_LENGTH);
     EQUAL(read_at(0x47FF), NAMCO163_ADDRESS);
-    EQUAL(namco163_write(image, 308, arena, 0, 0, 0), NAMCO163_IMAGE_LENGTH);
+    EQUAL(namco163_write(image, 309, arena, 0, 0, 0), NAMCO163_IMAGE_LENGTH);
     EQUAL(namco163_write(image, 307, arena, ARENA + 1, 0, 0), NAMCO163_ARENA_LENGTH);
     EQUAL(write_at(0, 0), NAMCO163_ADDRESS);
     EQUAL(namco163_run(image, 0, samples, 0, NAMCO163_CLOCK_LIMIT + 1), NAMCO163_IMAGE_LENGTH);
@@ -873,6 +1209,17 @@ int main(void) {
     test_load_blocks();
     test_unfit_directories();
     test_refused_blocks();
+    test_options();
+    test_option_loads();
+    test_fresh_editions();
+    test_f800();
+    test_f800_resets();
+    test_f800_detection();
+    test_f800_unknown();
+    test_f800_fixed();
+    test_f800_short();
+    test_f800_blocks();
+    test_image_lengths();
     if (failures) printf("%d of %d checks of the C calls failed\n", failures, checks);
     else printf("%d checks of the C calls\n", checks);
     return failures ? EXIT_FAILURE : EXIT_SUCCESS;
