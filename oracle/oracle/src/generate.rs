@@ -1,7 +1,7 @@
 // SPDX-License-Identifier: MIT OR Apache-2.0
-//! Random sessions in the replay program's language. A seed gives the same calls everywhere. With the options drawn, about half of the loads
-//! are of the new edition (L19), images have both lengths, and F800 is written more often; without, nothing of that is drawn, and a seed
-//! gives the calls that it gave before there were options. The list that is recorded in the repository is one of the latter.
+//! Random sessions in the replay program's language. A seed gives the same calls everywhere. With options, about half of the loads are of
+//! the new edition (L19), images have both lengths, and F800 is written more often. Without, nothing of that is drawn, and a seed gives the
+//! calls that it gave before there were options; the list that is recorded in the repository is such a one.
 
 mod actions;
 pub mod loads;
