@@ -1003,16 +1003,19 @@ static void test_f800_unknown(void) {
     MAKE(old_by_f800);
 }
 
-/* L21: a fixed 175 and a fixed 340 are alike in both editions. */
+/* L21: a fixed 175 and a fixed 340 are alike in both editions. On a 175 that a hard reset left open F800 maps nothing. */
 static void test_f800_fixed(void) {
     static const struct step n175[] = {
         {0xF800, 0x40, 0, 0}, {0xC000, 0x40, 0, 0}, {0xC000, 0x41, 0xFF000000, 0xFF}, {0xF800, 0x4F, 0, 0xFF}};
+    static const struct step waiting[] = {{0xF800, 0x00, 0, 0xFF}, {0x8000, 0x00, 0xFF000000, 0}};
     static const struct step n340[] = {{0xF800, 0x40, 0, 0}, {0xC000, 0x41, 0, 0}};
     uint64_t yes;
     for (yes = 0; yes < 2; yes++) {
         EQUAL(load_edition(308, 210, 1, 0, 8192, yes), 0);
         MAKE(n175);
         CHECK(protect() == 0x41 && namco163_options(image, 308) == (yes ? NAMCO163_F800_PROTECTS : 0));
+        EQUAL(reset(NAMCO163_HARD), 0);
+        MAKE(waiting);
         EQUAL(load_edition(308, 210, 2, 0, 8192, yes), 0);
         MAKE(n340);
         EQUAL(protect(), 0);

@@ -16,7 +16,7 @@ const RAM_PAGES: [u64; 6] = [0, 1, 2, 3, 8, 64];
 const IMAGES: [u64; 6] = [0, 306, LEN as u64, OPTIONS_LEN as u64, 309, IMAGE_LIMIT];
 
 /// Of the new edition, where nothing else is said.
-const ONCE: [&str; 29] = [
+const ONCE: [&str; 30] = [
     "F800 opens parts and protects others",
     "F800 of the byte that is there changes nothing",
     "F800 of another byte that protects all changes nothing",
@@ -26,6 +26,7 @@ const ONCE: [&str; 29] = [
     "F800 on a 163 in the old edition changes no flag",
     "F800 on a settled 340",
     "F800 on a fixed 175",
+    "F800 on a 175 that a hard reset left open",
     "F800 on a fixed 340",
     "an open 175 with a byte of 40..4F",
     "a protected 175 with a byte of 40..4F",
@@ -163,6 +164,8 @@ fn f800(before: &View, after: &View, val: u8, counter: &mut Counter) {
     }
     if after.board() != "163" {
         let fixed = !after.chip.auto_detect_board;
+        let waits = after.board() == "175" && after.chip.regs.prg_ram_protect == 0 && open(after)[0];
+        counter.hit_if(waits, "F800 on a 175 that a hard reset left open");
         counter.hit(match (after.board(), fixed) {
             ("175", _) => "F800 on a fixed 175",
             (_, true) => "F800 on a fixed 340",

@@ -64,9 +64,13 @@ fn protected_stores(g: &mut Generator) {
     }
 }
 
-/// C7, C8: an open byte, a reset, stores, and the next write that maps.
+/// C7, C8: an open work RAM, a reset, stores, and the next write that maps.
 fn over_a_reset(g: &mut Generator) {
-    open(g);
+    if g.loaded().chip.board == Board::Namco175 {
+        g.put(0xC000, 0x01);
+    } else {
+        open(g);
+    }
     if g.rng.once_in(2) {
         let slot = g.rng.below(4);
         let val = g.rng.pick(&[0x01, 0x05]);

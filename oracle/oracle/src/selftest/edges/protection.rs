@@ -185,6 +185,8 @@ fn fixed_boards(t: &mut Checks) {
         let mut cart = loaded(load);
         steps(t, "175", &mut cart, steps_of_175);
         t.eq("175: byte", regs(&cart), (Board::Namco175, 0x41, 0));
+        t.eq("reset", refusal(cart.reset(1)), 0);
+        steps(t, "175, reset", &mut cart, &[((0xF800, 0x00), NO_PRG, NO_CHR, "41w..48w"), ((0x8000, 0x00), AT_6000, NO_CHR, "41..48")]);
     }
     for load in [N340, new_edition(N340)] {
         let mut cart = loaded(load);
