@@ -13,7 +13,7 @@ use oracle::{
 };
 
 const SEED: u64 = 1;
-const COVERAGE_CALLS: usize = 120_000;
+const COVERAGE_CALLS: usize = 160_000;
 
 /// Every class of calls is reached, counted from the played states.
 pub fn coverage(t: &mut Checks) {
