@@ -33,4 +33,5 @@ noState =
             «prg_pages» = replicate 64 unmapped;
             «chr_pages» = replicate 16 unmapped;
           };
+      «f800_protects» = false;
     }

@@ -3,7 +3,7 @@
 -- memory/specs/Range.antt, and every number in limits/specs/Limits.antt.
 use Prim.Native.Nat.{ℕ, _^_, _≤_, _<_}
 use mathlib.Core.Path.{_≡_}
-use mathlib.Core.Bool.{Bool, _&&_, _||_}
+use mathlib.Core.Bool.{Bool, false, _&&_, _||_}
 use mathlib.Core.List.{List}
 use mathlib.Core.Logic.{_⊎_}
 use lib.Dec.{eqb, leb}
@@ -13,6 +13,7 @@ use Rattle.limits.specs.Every.{every}
 use Rattle.memory.specs.Range.{memoryOk, MemoryInRange, MemoryTyped, Bytes}
 use Rattle.sound.specs.Range.{audioOk, InRange as AudioInRange, Typed as AudioTyped}
 use Rattle.board_chip.specs.declared.namco163.Namco163.{Namco163}
+use Rattle.board_state.specs.declared.Options.{Options}
 use Rattle.board_state.specs.declared.State.{State}
 
 -- ---- the mapper: R9
@@ -78,7 +79,11 @@ pub record Known (s : State) : Type 0 where
   pub typed : Typed s
   pub range : InRange s
 
+-- ---- L19: a load without options
+abbrev pub noOptions : Options
+noOptions = record { «f800_protects» = false }
+
 -- ---- the state with other registers
 
 abbrev pub withChip : State → Namco163 → State
-withChip s n = record { chip = n; memory = s .memory }
+withChip s n = record { chip = n; memory = s .memory; «f800_protects» = s .«f800_protects» }

@@ -10,10 +10,16 @@ ghost use Rattle.board_state.specs.State.{bankTest, mapperOk, chipOk, in
 
 pub mod none; // none.rt: the state of a refused load
 
+// What a load may choose (L19): in the edition where F800 protects, work RAM of a 163 takes stores as F800 says.
+pub struct Options {
+    pub f800_protects: bool,
+}
+
 // The board's state. Its bytes lie in an arena that the caller lends.
 pub struct State {
     pub chip: Namco163,
     pub memory: Memory,
+    pub f800_protects: bool,
 }
 
 fn banks_ok(banks: [u8; 3]) -> bool

@@ -61,5 +61,6 @@ pub fn no_state() -> State
     State {
         chip: chip,
         memory: m,
+        f800_protects: false,
     }
 }

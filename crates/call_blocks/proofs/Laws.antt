@@ -12,6 +12,7 @@ use Rattle.memory.specs.Changes.{changes, prgChanges}
 use Rattle.memory_bytes.specs.Bytes.{prgEntry, storedAt}
 use Rattle.memory.specs.declared.layout.MemoryLayout.{MemoryLayout}
 use Rattle.memory.specs.declared.page.Page.{Page}
+use Rattle.board_state.specs.declared.Options.{Options}
 use Rattle.board_state.specs.declared.State.{State}
 use Rattle.board_state.specs.None.{noState}
 use Rattle.board_state.specs.State.{inRange}
@@ -144,16 +145,16 @@ unranged d s arena addr v e = go (fit d) refl
 
 -- ---- load
 
-pub load-number : (mapper sub flags : ℕ) (known : Bool) (sizes : MemoryLayout) (len : ℕ)
-    → loadAnswer mapper sub flags known sizes len .refusal ≡ firstOf (loadChecks mapper sizes len)
+pub load-number : (mapper sub flags : ℕ) (known : Bool) (sizes : MemoryLayout) (options : Options) (len : ℕ)
+    → loadAnswer mapper sub flags known sizes options len .refusal ≡ firstOf (loadChecks mapper sizes len)
 unfolding loadAnswer
-load-number mapper sub flags known sizes len =
+load-number mapper sub flags known sizes options len =
     number-is (loadChecks mapper sizes len) (λ q. record { refusal = q; state = noState }) _ (λ (l : Loaded). l .refusal) refl (λ q. refl)
 
-module _ (d : List ℕ) (mapper sub flags : ℕ) (known : Bool) (sizes : MemoryLayout) (arena : List ℕ) where
+module _ (d : List ℕ) (mapper sub flags : ℕ) (known : Bool) (sizes : MemoryLayout) (options : Options) (arena : List ℕ) where
   abbrev Leaves : Loaded → List ℕ → List ℕ → Type 0
   Leaves l a p =
-      (loadGives d mapper sub flags known sizes (length arena) ≡ l)
+      (loadGives d mapper sub flags known sizes options (length arena) ≡ l)
       × ((loadLeaves d mapper sizes arena ≡ a) × (loadDrops d mapper sizes arena ≡ p))
 
   pub load-unfit : (length d ≡ 256 → ⊥) → Leaves (record { refusal = 2; state = noState }) arena d
@@ -161,7 +162,7 @@ module _ (d : List ℕ) (mapper sub flags : ℕ) (known : Bool) (sizes : MemoryL
   load-unfit h = let e = ne-eqb (length d) 256 h in (rw e, (rw e, rw e))
 
   abbrev loaded : Loaded
-  loaded = loadAnswer mapper sub flags known sizes (length arena)
+  loaded = loadAnswer mapper sub flags known sizes options (length arena)
 
   pub load-refused : length d ≡ 256 → (firstOf (loadChecks mapper sizes (length arena)) ≡ 0 → ⊥)
       → Leaves loaded (loadArena mapper sizes arena) d

@@ -10,6 +10,7 @@ use Rattle.memory.specs.declared.layout.MemoryLayout.{MemoryLayout}
 use Rattle.memory.specs.declared.layout.Src.{Src}
 use Rattle.memory.specs.Memory.{regionIn}
 use Rattle.memory_bytes.specs.Bytes.{prgEntry, chrEntry, storedAt, wrappedAt}
+use Rattle.board_state.specs.declared.Options.{Options}
 use Rattle.board_state.specs.declared.State.{State}
 use Rattle.board_state.specs.None.{noState}
 use Rattle.call_refusals.specs.Refusals.{Check, unlessRefused, unlessKept}
@@ -115,9 +116,9 @@ syncDrops d s arena = unlessKept (withDirectory d (batteryChecks s (length arena
 abbrev pub placesCheck : List ℕ → Check
 placesCheck d = record { number = 2; holds = not (eqb (length d) 256) }
 
-unfoldable pub loadGives : List ℕ → ℕ → ℕ → ℕ → Bool → MemoryLayout → ℕ → Loaded
-loadGives d mapper sub flags known sizes len =
-    unlessRefused (placesCheck d ∷ []) (λ q. record { refusal = q; state = noState }) (loadAnswer mapper sub flags known sizes len)
+unfoldable pub loadGives : List ℕ → ℕ → ℕ → ℕ → Bool → MemoryLayout → Options → ℕ → Loaded
+loadGives d mapper sub flags known sizes options len =
+    unlessRefused (placesCheck d ∷ []) (λ q. record { refusal = q; state = noState }) (loadAnswer mapper sub flags known sizes options len)
 
 unfoldable pub loadLeaves : List ℕ → ℕ → MemoryLayout → List ℕ → List ℕ
 loadLeaves d mapper sizes arena = unlessKept (placesCheck d ∷ []) arena (loadArena mapper sizes arena)

@@ -1,4 +1,5 @@
 // The calls that drop all blocks: load (K7), fill and battery sync (K6).
+use board_state::Options;
 use board_state::State;
 use board_state::none::no_state;
 use call_load::Loaded;
@@ -64,8 +65,9 @@ pub fn load(
     flags: u8,
     known: bool,
     sizes: MemoryLayout,
+    options: Options,
 ) -> Loaded
-    ensures { λ r. ⌜ r ≡ loadGives (now (d .entry)) mapper submapper flags known sizes (length (now (arena .entry))) ⌝ }
+    ensures { λ r. ⌜ r ≡ loadGives (now (d .entry)) mapper submapper flags known sizes options (length (now (arena .entry))) ⌝ }
     ensures { λ r. ⌜ now (arena .exit) ≡ loadLeaves (now (d .entry)) mapper sizes (now (arena .entry)) ⌝ }
     ensures { λ r. ⌜ now (d .exit) ≡ loadDrops (now (d .entry)) mapper sizes (now (arena .entry)) ⌝ }
 {
@@ -76,7 +78,7 @@ pub fn load(
             state: none,
         };
     }
-    let loaded = call_load::load(arena, mapper, submapper, flags, known, sizes);
+    let loaded = call_load::load(arena, mapper, submapper, flags, known, sizes, options);
     if loaded.refusal != 0 {
         return loaded;
     }

@@ -7,8 +7,8 @@ use lib.ListN.{length}
 use Rattle.memory_bytes.specs.Bytes.{prgPeek, prgWrite}
 use Rattle.memory.specs.Changes.{changes, noChanges}
 use Rattle.board_chip.specs.Reads.{served, byteOr, afterRead}
-use Rattle.board_registers.specs.Writes.{writeChip, remaps}
-use Rattle.board_banking.specs.Banking.{updateBanks}
+use Rattle.board_registers.specs.Writes.{writeChip}
+use Rattle.board_protection.specs.Protection.{remapBanks, remapsIn}
 use Rattle.board_state.specs.declared.State.{State}
 use Rattle.board_state.specs.State.{withChip}
 use Rattle.call_cpu.specs.declared.calls.ByteRead.{ByteRead}
@@ -36,13 +36,15 @@ cpuPeek s arena addr =
 
 -- ---- CPU write: L7
 
--- L11, L14: the state after the register step, and the tables where they are made anew
+-- L11, L21: the state after the register step, and the tables where they are made anew. The registers know no edition.
 unfoldable pub writeRegister : State → ℕ → ℕ → State
 writeRegister s addr v =
     let chip = writeChip (s .chip) addr v in
+    let protects = s .«f800_protects» in
     record {
       chip = chip;
-      memory = cond (remaps (s .chip .board) (chip .board) addr) (updateBanks chip (s .memory)) (s .memory);
+      memory = cond (remapsIn protects (s .chip .board) (chip .board) addr) (remapBanks protects chip (s .memory)) (s .memory);
+      «f800_protects» = protects;
     }
 
 -- N21: a refused write's answer

@@ -1,6 +1,7 @@
 // The CPU's calls: read and peek (L8), and write (L7, L15).
-use board_banking::update_banks;
 use board_chip::reads::Served;
+use board_protection::remap_banks;
+use board_protection::remaps_in;
 use board_registers::writes;
 use board_state::State;
 use board_state::in_range;
@@ -103,7 +104,7 @@ pub fn cpu_peek(s: State, arena: &[u8], addr: u16) -> Peeked
     }
 }
 
-// L11, L14: the registers after a write, and the tables where they are mapped anew.
+// L11, L21: the registers after a write, and the tables where they are mapped anew.
 pub fn write_register(s: State, addr: u16, val: u8) -> State
     requires { ⌜ (s .chip .audio .addr < 128) × Sized (s .memory) ⌝ }
     ensures { λ r. ⌜ r ≡ writeRegister s addr val ⌝ }
@@ -114,9 +115,9 @@ pub fn write_register(s: State, addr: u16, val: u8) -> State
     let before = old.board;
     let mut after = s;
     after.chip = chip;
-    if writes::remaps(before, board, addr) {
+    if remaps_in(s.f800_protects, before, board, addr) {
         let m = s.memory;
-        let mapped = update_banks(chip, m);
+        let mapped = remap_banks(s.f800_protects, chip, m);
         after.memory = mapped;
     }
     after

@@ -10,7 +10,8 @@ use Rattle.memory.specs.declared.layout.MemoryLayout.{MemoryLayout}
 use Rattle.memory.specs.Layout.{withinLimits}
 use Rattle.memory_map.specs.New.{newMemory}
 use Rattle.board_chip.specs.Load.{chipAtLoad}
-use Rattle.board_banking.specs.Banking.{updateBanks}
+use Rattle.board_protection.specs.Protection.{remapBanks}
+use Rattle.board_state.specs.declared.Options.{Options}
 use Rattle.board_state.specs.declared.State.{State}
 use Rattle.board_state.specs.None.{noState}
 use Rattle.call_load.specs.declared.Loaded.{Loaded}
@@ -24,16 +25,18 @@ withUsed m used = record { layout = m .layout; «battery_ext_len» = used; «prg
 unfoldable pub memoryAtLoad : ℕ → MemoryLayout → Memory
 memoryAtLoad mapper sizes = withUsed (newMemory sizes) (cond (eqb mapper 19) 128 0)
 
--- L1: the state after an accepted load: the registers at load (chip), and the page tables mapped by them
-unfoldable pub freshState : ℕ → ℕ → ℕ → Bool → MemoryLayout → State
-freshState mapper sub flags known sizes =
-    let chip = chipAtLoad mapper sub flags known in record { chip = chip; memory = updateBanks chip (memoryAtLoad mapper sizes) }
+-- L1, L19: the state after an accepted load: the registers at load (chip), the page tables mapped by them, and the options
+unfoldable pub freshState : ℕ → ℕ → ℕ → Bool → MemoryLayout → Options → State
+freshState mapper sub flags known sizes options =
+    let chip = chipAtLoad mapper sub flags known in
+    let protects = options .«f800_protects» in
+    record { chip = chip; memory = remapBanks protects chip (memoryAtLoad mapper sizes); «f800_protects» = protects }
 
 -- N4 to N7 and N21, or the fresh state
-unfoldable pub loadAnswer : ℕ → ℕ → ℕ → Bool → MemoryLayout → ℕ → Loaded
-loadAnswer mapper sub flags known sizes len =
+unfoldable pub loadAnswer : ℕ → ℕ → ℕ → Bool → MemoryLayout → Options → ℕ → Loaded
+loadAnswer mapper sub flags known sizes options len =
     unlessRefused (loadChecks mapper sizes len) (λ q. record { refusal = q; state = noState })
-    (record { refusal = 0; state = freshState mapper sub flags known sizes })
+    (record { refusal = 0; state = freshState mapper sub flags known sizes options })
 
 -- R5: every byte is 0
 unfoldable pub loadArena : ℕ → MemoryLayout → List ℕ → List ℕ

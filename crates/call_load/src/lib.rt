@@ -1,6 +1,7 @@
 // Load: a cartridge's numbers to a fresh state (L1 to L5), and the arena to zeros (R5).
-use board_banking::update_banks;
 use board_chip::namco163::Namco163;
+use board_protection::remap_banks;
+use board_state::Options;
 use board_state::State;
 use board_state::none::no_state;
 use call_refusals::load_refusal;
@@ -44,16 +45,24 @@ fn memory_at_load(mapper: u64, sizes: MemoryLayout) -> Memory
     m
 }
 
-fn fresh_state(mapper: u16, submapper: u8, flags: u8, known: bool, sizes: MemoryLayout) -> State
+fn fresh_state(
+    mapper: u16,
+    submapper: u8,
+    flags: u8,
+    known: bool,
+    sizes: MemoryLayout,
+    options: Options,
+) -> State
     requires { ⌜ LoadFits mapper sizes ⌝ }
-    ensures { λ r. ⌜ r ≡ freshState mapper submapper flags known sizes ⌝ }
+    ensures { λ r. ⌜ r ≡ freshState mapper submapper flags known sizes options ⌝ }
 {
     let chip = Namco163::load(mapper, submapper, flags, known);
     let m = memory_at_load(mapper as u64, sizes);
-    let mapped = update_banks(chip, m);
+    let mapped = remap_banks(options.f800_protects, chip, m);
     State {
         chip: chip,
         memory: mapped,
+        f800_protects: options.f800_protects,
     }
 }
 
@@ -64,8 +73,9 @@ pub fn load(
     flags: u8,
     known: bool,
     sizes: MemoryLayout,
+    options: Options,
 ) -> Loaded
-    ensures { λ r. ⌜ (r ≡ loadAnswer mapper submapper flags known sizes (length (now (arena .entry))))
+    ensures { λ r. ⌜ (r ≡ loadAnswer mapper submapper flags known sizes options (length (now (arena .entry))))
         × (now (arena .exit) ≡ loadArena mapper sizes (now (arena .entry))) ⌝ }
 {
     let q = load_refusal(mapper, sizes, arena.len());
@@ -77,7 +87,7 @@ pub fn load(
         };
     }
     clear(arena);
-    let state = fresh_state(mapper as u16, submapper, flags, known, sizes);
+    let state = fresh_state(mapper as u16, submapper, flags, known, sizes, options);
     Loaded {
         refusal: 0,
         state: state,

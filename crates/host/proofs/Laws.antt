@@ -4,11 +4,12 @@ use mathlib.Core.Path.{_≡_, refl, sym, ap, subst, _∙_}
 use mathlib.Core.Bool.{Bool, true, false, cond}
 use mathlib.Core.List.{List, _∷_}
 use native.Mathlib.Omega.{arith}
-use borrow.Author.Tests.{not-false, eq-eqb, ne-eqb, eqb-true}
+use borrow.Author.Tests.{not-false}
 use lib.Dec.{eqb}
 use lib.ListN.{length}
 use Rattle.memory.specs.declared.layout.MemoryLayout.{MemoryLayout}
 use Rattle.memory.specs.Range.{Bytes}
+use Rattle.board_state.specs.declared.Options.{Options}
 use Rattle.board_state.specs.declared.State.{State}
 use Rattle.board_state.specs.None.{noState}
 use Rattle.board_state.specs.State.{Known}
@@ -17,11 +18,11 @@ use Rattle.call_refusals.specs.Refusals.{Check, firstOf, unlessRefused, stateCh
 use Rattle.call_refusals.proofs.Laws.{Numbered, NoneHolds, accepted-none, first-done, number-is}
 use Rattle.call_load.specs.declared.Loaded.{Loaded}
 use Rattle.call_load.specs.Cartridge.{freshState, loadAnswer}
-use Rattle.image_write.specs.Image.{imageBytes, imageOf}
-use Rattle.image_write.specs.Writing.{imageCheck}
+use Rattle.image_write.specs.Options.{imageAt, optionSet, roomFor}
+use Rattle.image_write.specs.Writing.{roomCheck}
 use Rattle.image_read.specs.declared.reading.ReadImage.{ReadImage}
-use Rattle.image_read.specs.Reading.{readChecks, refusedRead, readImage}
-use Rattle.image_read.proofs.RoundTrip.{accepted-in-range, in-range-accepted, read-known, written-read}
+use Rattle.image_read.specs.Reading.{readChecks, refusedRead, readImage, stateIn}
+use Rattle.image_read.proofs.RoundTrip.{accepted-in-range, in-range-accepted, read-known, roomy-in, written-read}
 use Rattle.image_read.proofs.Accepted.{accepted}
 use Rattle.thm_machine.specs.Calls.{Held}
 use Rattle.thm_machine.specs.Start.{Loaded as Start}
@@ -29,7 +30,7 @@ use Rattle.thm_machine.proofs.Start.{load-starts}
 use Rattle.thm_range.proofs.Calls.{load-fits}
 use Rattle.host_state.specs.HostState.{Gives, unaltered}
 use Rattle.host_state.proofs.Laws.{called}
-use Rattle.host.specs.Host.{onImage, stateIn}
+use Rattle.host.specs.Host.{onImage}
 
 -- ---- the state of an accepted image
 
@@ -47,7 +48,7 @@ module _ (img : List ℕ) (own : List Check) (numbered : Numbered own) (e : firs
   pub in-image : Known (stateIn img)
   in-image =
       let h = none-held in
-      known-in img (in-range-accepted img (eqb-true (length img) imageBytes (not-false _ (h .0))) (not-false _ (h .1 .0)))
+      known-in img (in-range-accepted img (not-false _ (h .0)) (not-false _ (h .1 .0)))
 
 -- ---- refused by it, or on with it
 
@@ -63,7 +64,7 @@ image-refuses img own h =
 -- an image that is accepted: the call's own checks are left
 pub image-passes : (img : List ℕ) (own : List Check) → readImage img .refusal ≡ 0 → firstOf (onImage img own) ≡ firstOf own
 unfolding firstOf
-image-passes img own e = let h = accepted-in-range img e in rw (eq-eqb (length img) imageBytes (h .0), h .1)
+image-passes img own e = let h = accepted-in-range img e in rw (h .0, h .1)
 
 module _ (img : List ℕ) (own : List Check) (lent : List ℕ) (g : Gives) where
   -- an image that is refused: the call answers its number
@@ -80,8 +81,8 @@ module _ (img : List ℕ) (own : List Check) (lent : List ℕ) (g : Gives) where
 -- a call that reads an image to r, with its own checks and what it gives on a state
 pub record OnImage (img lent : List ℕ) (own : State → List Check) (g : State → Gives) (r : ReadImage) : Type 0 where
   -- what the reading says of an accepted image
-  pub good : r .refusal ≡ 0 → (length img ≡ imageBytes) × Known (r .state)
-  pub image : Bytes img → r .refusal ≡ 0 → img ≡ imageOf (r .state)
+  pub good : r .refusal ≡ 0 → (roomFor (optionSet (r .state)) (length img) ≡ true) × Known (r .state)
+  pub image : Bytes img → r .refusal ≡ 0 → img ≡ imageAt (length img) (r .state)
   -- the image refuses, or the call goes on with its state
   pub refused : (r .refusal ≡ 0 → ⊥)
       → unaltered img lent (r .refusal) ≡ unlessRefused (onImage img (own (stateIn img))) (unaltered img lent) (g (stateIn img))
@@ -95,37 +96,42 @@ on-image img lent own g r is =
     let q = ap (λ (x : ReadImage). x .refusal) is in
     let s = ap (λ (x : ReadImage). x .state) is in
     record {
-      good = λ z. (accepted-in-range img (sym q ∙ z) .0, subst Known (sym s) (read-known img (sym q ∙ z)));
-      image = λ b z. sym (ap imageOf s ∙ written-read img b (sym q ∙ z));
+      good = λ z. (
+        subst (λ (x : State). roomFor (optionSet x) (length img) ≡ true) (sym (s ∙ state-read img (sym q ∙ z)))
+            (roomy-in img (accepted-in-range img (sym q ∙ z) .0)),
+        subst Known (sym s) (read-known img (sym q ∙ z)),
+      );
+      image = λ b z. sym (ap (imageAt (length img)) s ∙ written-read img b (sym q ∙ z) .same);
       refused = λ h. ap (unaltered img lent) q ∙ stopped img (own (stateIn img)) lent (g (stateIn img)) (λ z. h (q ∙ z));
       goes-on = λ z. ap (λ (x : State). unlessRefused (stateCheck x ∷ own x) (unaltered img lent) (g x)) (s ∙ state-read img (sym q ∙ z))
           ∙ onward img (own (stateIn img)) lent (g (stateIn img)) (sym q ∙ z);
     }
 
 -- a call's word does not tell which image it left
-pub same-word : (cs : List Check) (img other lent : List ℕ) (g : Gives)
-    → unlessRefused cs (unaltered img lent) g .word ≡ unlessRefused cs (unaltered other lent) g .word
-same-word cs img other lent g = go (eqb (firstOf cs) 0)
+pub same-word : (cs : List Check) (img other lent : List ℕ) (g h : Gives) → g .word ≡ h .word
+    → unlessRefused cs (unaltered img lent) g .word ≡ unlessRefused cs (unaltered other lent) h .word
+same-word cs img other lent g h e = go (eqb (firstOf cs) 0)
   where
-    go : (t : Bool) → cond t g (unaltered img lent (firstOf cs)) .word ≡ cond t g (unaltered other lent (firstOf cs)) .word
-    go true = refl
+    go : (t : Bool) → cond t g (unaltered img lent (firstOf cs)) .word ≡ cond t h (unaltered other lent (firstOf cs)) .word
+    go true = e
     go false = refl
 
 -- ---- an image that is only written
 
-pub not-long : (img : List ℕ) (cs : List Check) (lent : List ℕ) (g : Gives) → (length img ≡ imageBytes → ⊥)
-    → unaltered img lent 1 ≡ unlessRefused (imageCheck (length img) ∷ cs) (unaltered img lent) g
+pub no-room : (option : Bool) (img : List ℕ) (cs : List Check) (lent : List ℕ) (g : Gives) → roomFor option (length img) ≡ false
+    → unaltered img lent 1 ≡ unlessRefused (roomCheck option (length img) ∷ cs) (unaltered img lent) g
 unfolding firstOf
-not-long img cs lent g h = rw (ne-eqb (length img) imageBytes h)
+no-room option img cs lent g e = rw e
 
-pub long : (img : List ℕ) (cs : List Check) → length img ≡ imageBytes → firstOf cs ≡ firstOf (imageCheck (length img) ∷ cs)
+pub roomy : (option : Bool) (img : List ℕ) (cs : List Check) → roomFor option (length img) ≡ true
+    → firstOf cs ≡ firstOf (roomCheck option (length img) ∷ cs)
 unfolding firstOf
-long img cs l = rw (eq-eqb (length img) imageBytes l)
+roomy option img cs e = rw e
 
 -- ---- a load by its answer r
 
-module _ (mapper sub flags : ℕ) (known : Bool) (sizes : MemoryLayout) (arena : List ℕ) (r : Loaded)
-    (e : r ≡ loadAnswer mapper sub flags known sizes (length arena)) where
+module _ (mapper sub flags : ℕ) (known : Bool) (sizes : MemoryLayout) (options : Options) (arena : List ℕ) (r : Loaded)
+    (e : r ≡ loadAnswer mapper sub flags known sizes options (length arena)) where
   pub load-number : r .refusal ≡ firstOf (loadChecks mapper sizes (length arena))
   unfolding loadAnswer
   load-number =
@@ -137,10 +143,24 @@ module _ (mapper sub flags : ℕ) (known : Bool) (sizes : MemoryLayout) (arena :
   abbrev begun : r .refusal ≡ 0 → Start
   begun z =
       let e = sym load-number ∙ z in
-      record { mapper = mapper; submapper = sub; flags = flags; known = known; sizes = sizes; arena = arena; accepted = e }
+      record {
+        mapper = mapper;
+        submapper = sub;
+        flags = flags;
+        known = known;
+        sizes = sizes;
+        options = options;
+        arena = arena;
+        accepted = e;
+      }
 
   pub load-known : sub < 2 ^ 8 → r .refusal ≡ 0 → Known (r .state)
   load-known b z = subst (λ (x : Loaded). Known (x .state)) (sym e) (load-fits (begun z) b .known)
 
-  pub load-fresh : r .refusal ≡ 0 → r .state ≡ freshState mapper sub flags known sizes
+  pub load-fresh : r .refusal ≡ 0 → r .state ≡ freshState mapper sub flags known sizes options
   load-fresh z = ap (λ (x : Loaded). x .state) e ∙ ap (λ (h : Held). h .state) (load-starts (begun z))
+
+  -- bytes that hold its options hold its image
+  pub room-fresh : r .refusal ≡ 0 → (n : ℕ) → roomFor (options .«f800_protects») n ≡ true → roomFor (optionSet (r .state)) n ≡ true
+  unfolding freshState
+  room-fresh z n h = subst (λ (s : State). roomFor (optionSet s) n ≡ true) (sym (load-fresh z)) h

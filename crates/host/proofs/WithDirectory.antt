@@ -10,6 +10,7 @@ use borrow.Author.Tests.{eq-eqb, ne-eqb}
 use lib.Dec.{eqb, ltb}
 use lib.ListN.{length}
 use Rattle.memory.specs.declared.layout.MemoryLayout.{MemoryLayout}
+use Rattle.board_state.specs.declared.Options.{Options}
 use Rattle.board_state.specs.declared.State.{State}
 use Rattle.board_state.specs.State.{Known}
 use Rattle.board_state.proofs.Range.{known-passes}
@@ -17,10 +18,10 @@ use Rattle.call_refusals.specs.Refusals.{Check, firstOf, unlessRefused, unlessK
 use Rattle.call_refusals.proofs.Laws.{Numbered, accepted-none, first-more, first-done, refused-is, accepted-is}
 use Rattle.call_load.specs.declared.Loaded.{Loaded}
 use Rattle.call_load.specs.Cartridge.{loadAnswer, loadArena}
-use Rattle.image_write.specs.Image.{imageBytes}
-use Rattle.image_write.specs.Writing.{imageCheck}
+use Rattle.image_write.specs.Options.{roomFor}
+use Rattle.image_write.specs.Writing.{roomCheck}
 use Rattle.image_read.specs.declared.reading.ReadImage.{ReadImage}
-use Rattle.image_read.specs.Reading.{readImage}
+use Rattle.image_read.specs.Reading.{readImage, stateIn}
 use Rattle.image_read.proofs.RoundTrip.{read-known}
 use Rattle.thm_range.proofs.Refused.{load-refused}
 use Rattle.directory.specs.Fit.{fit}
@@ -32,7 +33,7 @@ use Rattle.call_blocks.specs.Blocks.{loadGives, loadLeaves, loadDrops}
 use Rattle.call_blocks.proofs.Laws.{load-number}
 use Rattle.host_state.specs.HostState.{Gives, unaltered}
 use Rattle.host_blocks.specs.HostBlocks.{storedTouched, storedDrops}
-use Rattle.host.specs.Host.{onImage, stateIn, cpuOwn}
+use Rattle.host.specs.Host.{onImage, cpuOwn}
 use Rattle.host.specs.Blocks.{foundWord, hostLookup, hostFind, loadBlocksChecks, hostLoadPlaces, blocksOwn, hostWritePlaces}
 use Rattle.host.specs.Blocks.{hostStoredPlaces}
 use Rattle.host.proofs.Laws.{state-read, in-image, image-refuses, image-passes}
@@ -100,42 +101,41 @@ either-given s d cs img lent g = rw (either-first s d cs)
 -- ---- a load with a directory
 
 -- into an image of another length
-pub places-stay : (img arena d : List ℕ) (mapper : ℕ) (sizes : MemoryLayout) → (length img ≡ imageBytes → ⊥)
-    → d ≡ hostLoadPlaces img arena d mapper sizes
+pub places-stay : (img arena d : List ℕ) (mapper : ℕ) (sizes : MemoryLayout) (options : Options)
+    → roomFor (options .«f800_protects») (length img) ≡ false → d ≡ hostLoadPlaces img arena d mapper sizes options
 unfolding firstOf hostLoadPlaces
-places-stay img arena d mapper sizes h = rw (ne-eqb (length img) imageBytes h)
+places-stay img arena d mapper sizes options e = rw e
 
 -- by its answer r
-pub record LoadBlocks (img arena d : List ℕ) (mapper sub flags : ℕ) (known : Bool) (sizes : MemoryLayout) (r : Loaded) : Type 0 where
-  pub number : r .refusal ≡ firstOf (loadBlocksChecks img arena d mapper sizes)
+pub record LoadBlocks (img arena d : List ℕ) (mapper sub flags : ℕ) (known : Bool) (sizes : MemoryLayout) (options : Options) (r : Loaded)
+    : Type 0 where
+  pub number : r .refusal ≡ firstOf (loadBlocksChecks img arena d mapper sizes options)
   -- accepted, it is the load without a directory
-  pub own-load : r .refusal ≡ 0 → r ≡ loadAnswer mapper sub flags known sizes (length arena)
+  pub own-load : r .refusal ≡ 0 → r ≡ loadAnswer mapper sub flags known sizes options (length arena)
   pub arena-loaded : r .refusal ≡ 0 → loadLeaves d mapper sizes arena ≡ loadArena mapper sizes arena
   pub arena-stays : (r .refusal ≡ 0 → ⊥) → loadLeaves d mapper sizes arena ≡ arena
-  pub places-after : loadDrops d mapper sizes arena ≡ hostLoadPlaces img arena d mapper sizes
+  pub places-after : loadDrops d mapper sizes arena ≡ hostLoadPlaces img arena d mapper sizes options
 
-pub load-blocks : (img arena d : List ℕ) (mapper sub flags : ℕ) (known : Bool) (sizes : MemoryLayout) (r : Loaded)
-    → length img ≡ imageBytes → r ≡ loadGives d mapper sub flags known sizes (length arena)
-    → LoadBlocks img arena d mapper sub flags known sizes r
+pub load-blocks : (img arena d : List ℕ) (mapper sub flags : ℕ) (known : Bool) (sizes : MemoryLayout) (options : Options) (r : Loaded)
+    → roomFor (options .«f800_protects») (length img) ≡ true → r ≡ loadGives d mapper sub flags known sizes options (length arena)
+    → LoadBlocks img arena d mapper sub flags known sizes options r
 unfolding firstOf loadGives loadLeaves hostLoadPlaces
-load-blocks img arena d mapper sub flags known sizes r long e = by (ℕ-discrete (length d) 256)
+load-blocks img arena d mapper sub flags known sizes options r i e = by (ℕ-discrete (length d) 256)
   where
-    by : Dec (length d ≡ 256) → LoadBlocks img arena d mapper sub flags known sizes r
+    by : Dec (length d ≡ 256) → LoadBlocks img arena d mapper sub flags known sizes options r
     by (yes l) =
-        let i = eq-eqb (length img) imageBytes long in
         let p = eq-eqb (length d) 256 l in
-        let same : r ≡ loadAnswer mapper sub flags known sizes (length arena) = e ∙ rw p in
+        let same : r ≡ loadAnswer mapper sub flags known sizes options (length arena) = e ∙ rw p in
         let own : r .refusal ≡ firstOf (loadChecks mapper sizes (length arena)) =
-        ap (λ (x : Loaded). x .refusal) same ∙ load-number mapper sub flags known sizes (length arena) in
+        ap (λ (x : Loaded). x .refusal) same ∙ load-number mapper sub flags known sizes options (length arena) in
         record {
           number = own ∙ rw (i, p);
           own-load = λ z. same;
           arena-loaded = λ z. rw p;
-          arena-stays = λ h. rw p (load-refused mapper sub flags known sizes arena (λ z. h (own ∙ z)) .1);
+          arena-stays = λ h. rw p (load-refused mapper sub flags known sizes options arena (λ z. h (own ∙ z)) .1);
           places-after = rw i;
         }
     by (no l) =
-        let i = eq-eqb (length img) imageBytes long in
         let p = ne-eqb (length d) 256 l in
         let two : r .refusal ≡ 2 = ap (λ (x : Loaded). x .refusal) e ∙ rw p in
         record {
@@ -171,11 +171,12 @@ state-passes img d own = by (ℕ-discrete (firstOf (onImage img [])) 0)
         ∙ sym (first-done (onImage img []) (withDirectory d own) h)
 
 -- K7
-pub load-places : (img arena d : List ℕ) (mapper : ℕ) (sizes : MemoryLayout)
-    → hostLoadPlaces img arena d mapper sizes ≡ unlessKept (loadBlocksChecks img arena d mapper sizes) d emptied
+pub load-places : (img arena d : List ℕ) (mapper : ℕ) (sizes : MemoryLayout) (options : Options)
+    → hostLoadPlaces img arena d mapper sizes options ≡ unlessKept (loadBlocksChecks img arena d mapper sizes options) d emptied
 unfolding hostLoadPlaces loadDrops
-load-places img arena d mapper sizes =
-    kept-behind (imageCheck (length img) ∷ []) (placesCheck d ∷ loadChecks mapper sizes (length arena)) (search needs) d emptied
+load-places img arena d mapper sizes options =
+    kept-behind (roomCheck (options .«f800_protects») (length img) ∷ [])
+    (placesCheck d ∷ loadChecks mapper sizes (length arena)) (search needs) d emptied
 
 -- K5
 pub write-places : (img arena d : List ℕ) (addr v : ℕ) → let s = stateIn img in

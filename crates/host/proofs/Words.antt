@@ -16,13 +16,13 @@ use Rattle.memory.specs.Changes.{changed, chrChanges, changes}
 use Rattle.memory.proofs.Laws.Changes.{changed-lt}
 use Rattle.board_state.specs.declared.State.{State}
 use Rattle.board_state.specs.State.{Known}
+use Rattle.board_state.specs.declared.Options.{Options}
 use Rattle.call_refusals.specs.Refusals.{Check, firstOf, unlessRefused, kindCheck, cpuChecks, loadChecks}
 use Rattle.call_refusals.proofs.Laws.{accepted-is, number-is}
 use Rattle.call_cpu.specs.declared.calls.Written.{Written}
 use Rattle.call_cpu.specs.Calls.{writeRegister, cpuRead, cpuWrite}
 use Rattle.call_run.specs.Run.{clocks, made, runLimit}
 use Rattle.call_run.proofs.run.Laws.{made-most}
-use Rattle.image_write.specs.Writing.{imageCheck}
 use Rattle.thm_range.proofs.Calls.{cpu-write-mask}
 use Rattle.directory.specs.declared.Found.{Found}
 use Rattle.directory.specs.Fit.{fit}
@@ -30,7 +30,8 @@ use Rattle.directory.specs.Calls.{wordAt, refusedLookup, foundOf, lookup}
 use Rattle.call_blocks.specs.Blocks.{lookupChecks}
 use Rattle.host_state.specs.HostState.{Gives, unaltered, readGives, writeGives, runOwn, runGives}
 use Rattle.host_state.proofs.Laws.{word-of}
-use Rattle.host.specs.Host.{onImage, stateIn, hostLoad, hostReset, cpuOwn, hostRead, hostWrite, hostRun}
+use Rattle.image_read.specs.Reading.{stateIn}
+use Rattle.host.specs.Host.{onImage, hostLoadChecks, hostLoad, hostReset, cpuOwn, hostRead, hostWrite, hostRun}
 use Rattle.host.specs.Blocks.{foundWord, hostLookup, hostFind, loadBlocksChecks, hostLoadBlocks, blocksOwn, hostWriteBlocks}
 use Rattle.host.proofs.Laws.{none-held, in-image}
 use Rattle.host.proofs.WithDirectory.{lookup-is}
@@ -60,11 +61,10 @@ low-bits cs img lent g h e = go (eqb (firstOf cs) 0) refl
     go true q = e ∙ sym (eqb-true (firstOf cs) 0 q)
     go false q = omega (arith, first-small cs h)
 
-pub load-number : (img arena : List ℕ) (mapper sub flags known : ℕ) (sizes : MemoryLayout)
-    → hostLoad img arena mapper sub flags known sizes .word % 256
-    ≡ firstOf (imageCheck (length img) ∷ loadChecks mapper sizes (length arena))
+pub load-number : (img arena : List ℕ) (mapper sub flags known : ℕ) (sizes : MemoryLayout) (options : Options)
+    → hostLoad img arena mapper sub flags known sizes options .word % 256 ≡ firstOf (hostLoadChecks img arena mapper sizes options)
 unfolding hostLoad
-load-number img arena mapper sub flags known sizes = low-bits _ _ _ _ (search needs) refl
+load-number img arena mapper sub flags known sizes options = low-bits _ _ _ _ (search needs) refl
 
 pub reset-number : (img : List ℕ) (kind : ℕ) → hostReset img kind .word % 256 ≡ firstOf (onImage img (kindCheck kind ∷ []))
 unfolding hostReset
@@ -74,32 +74,33 @@ pub read-number : (img arena : List ℕ) (addr : ℕ)
     → hostRead img arena addr .word % 256 ≡ firstOf (onImage img (cpuOwn (stateIn img) arena addr))
 unfolding hostRead
 read-number img arena addr =
-    low-bits _ img arena (readGives (stateIn img) arena addr) (search needs) (omega arith)
+    low-bits _ img arena (readGives (length img) (stateIn img) arena addr) (search needs) (omega arith)
 
 pub write-number : (img arena : List ℕ) (addr v : ℕ)
     → hostWrite img arena addr v .word % 256 ≡ firstOf (onImage img (cpuOwn (stateIn img) arena addr))
 unfolding hostWrite
 write-number img arena addr v =
-    low-bits _ img arena (writeGives (stateIn img) arena addr v) (search needs)
+    low-bits _ img arena (writeGives (length img) (stateIn img) arena addr v) (search needs)
     (omega (arith, cpu-write-mask (stateIn img) arena addr v))
 
 pub run-number : (img samples : List ℕ) (n : ℕ)
     → hostRun img samples n .word % 256 ≡ firstOf (onImage img (runOwn (stateIn img) samples n))
 unfolding hostRun
 run-number img samples n =
-    low-bits _ img samples (runGives (stateIn img) samples n) (search needs) (omega arith)
+    low-bits _ img samples (runGives (length img) (stateIn img) samples n) (search needs) (omega arith)
 
 -- a registering's word, and that of a store of the host's own, is the number alone: `register-refused`, `stored-refused`
-pub load-blocks-number : (img arena d : List ℕ) (mapper sub flags known : ℕ) (sizes : MemoryLayout)
-    → hostLoadBlocks img arena d mapper sub flags known sizes .word % 256 ≡ firstOf (loadBlocksChecks img arena d mapper sizes)
+pub load-blocks-number : (img arena d : List ℕ) (mapper sub flags known : ℕ) (sizes : MemoryLayout) (options : Options)
+    → hostLoadBlocks img arena d mapper sub flags known sizes options .word % 256
+    ≡ firstOf (loadBlocksChecks img arena d mapper sizes options)
 unfolding hostLoadBlocks
-load-blocks-number img arena d mapper sub flags known sizes = low-bits _ _ _ _ (search needs) refl
+load-blocks-number img arena d mapper sub flags known sizes options = low-bits _ _ _ _ (search needs) refl
 
 pub write-blocks-number : (img arena d : List ℕ) (addr v : ℕ)
     → hostWriteBlocks img arena d addr v .word % 256 ≡ firstOf (onBoth img d (cpuOwn (stateIn img) arena addr))
 unfolding hostWriteBlocks
 write-blocks-number img arena d addr v =
-    low-bits _ img arena (writeGives (stateIn img) arena addr v) (search needs)
+    low-bits _ img arena (writeGives (length img) (stateIn img) arena addr v) (search needs)
     (omega (arith, cpu-write-mask (stateIn img) arena addr v)) ∙ both-first img d (cpuOwn (stateIn img) arena addr)
 
 -- ---- H6: a lookup's length in bits 8..31 and its number in bits 32..63; a find's too, which is never refused
@@ -145,7 +146,7 @@ pub read-byte : (img arena : List ℕ) (addr : ℕ) → firstOf (onImage img (cp
     → hostRead img arena addr .word / 2 ^ 8 ≡ cpuRead (stateIn img) arena addr .byte
 unfolding hostRead
 read-byte img arena addr e =
-    omega (arith, word-is img (cpuOwn (stateIn img) arena addr) e arena (readGives (stateIn img) arena addr))
+    omega (arith, word-is img (cpuOwn (stateIn img) arena addr) e arena (readGives (length img) (stateIn img) arena addr))
 
 -- ---- H6: a write's CHR mask in bits 8..23 and its PRG mask in bits 24..63
 
@@ -167,7 +168,7 @@ pub write-masks : (img arena : List ℕ) (addr v : ℕ) → firstOf (onImage img
 unfolding hostWrite
 write-masks img arena addr v e =
     let s = stateIn img in let own = cpuOwn s arena addr in
-    let w = word-is img own e arena (writeGives s arena addr v) in
+    let w = word-is img own e arena (writeGives (length img) s arena addr v) in
     let low = cpu-write-mask s arena addr v in
     let small = chr-small s arena addr v (in-image img own (search needs) e) in
     record { chr = omega (arith, w, low, small); prg = omega (arith, w, low, small) }
@@ -192,7 +193,7 @@ pub run-counts : (img samples : List ℕ) (n : ℕ) → firstOf (onImage img (ru
 unfolding hostRun made
 run-counts img samples n e =
     let s = stateIn img in let own = runOwn s samples n in
-    let w = word-is img own e samples (runGives s samples n) in
+    let w = word-is img own e samples (runGives (length img) s samples n) in
     let short = ltb-false runLimit n (none-held img own (search needs) e .1 .1 .0) in
     let few = made-most n s (in-image img own (search needs) e .range .chip .audio .counter) short in
     record { samples = omega (arith, w, few); rises = omega (arith, w, few) }

@@ -4,15 +4,17 @@ use Prim.Native.Nat.{ℕ, _+_, _*_, _^_}
 use mathlib.Core.List.{List, [], _∷_}
 use lib.ListN.{length}
 use Rattle.memory.specs.declared.layout.MemoryLayout.{MemoryLayout}
+use Rattle.board_state.specs.declared.Options.{Options}
 use Rattle.board_state.specs.declared.State.{State}
 use Rattle.call_refusals.specs.Refusals.{Check, firstOf, unlessRefused, unlessKept, loadChecks}
-use Rattle.image_write.specs.Writing.{imageCheck}
+use Rattle.image_write.specs.Writing.{roomCheck}
+use Rattle.image_read.specs.Reading.{stateIn}
 use Rattle.directory.specs.declared.Found.{Found}
 use Rattle.directory.specs.Calls.{wordAt, foundOf, lookup}
 use Rattle.call_blocks.specs.Blocks.{directoryCheck, withDirectory, cpuWriteDrops, placesCheck, loadDrops}
 use Rattle.host_state.specs.HostState.{Gives, unaltered, writeGives}
 use Rattle.host_blocks.specs.HostBlocks.{storedDrops}
-use Rattle.host.specs.Host.{onImage, stateIn, cpuOwn, loadGives}
+use Rattle.host.specs.Host.{onImage, cpuOwn, loadGives}
 
 -- ---- lookup: K4, H6
 
@@ -29,15 +31,18 @@ hostFind d start = foundWord (foundOf (wordAt start d))
 
 -- ---- load: K7; refused by N1, then by the number of places, then by a load's own checks
 
-abbrev pub loadBlocksChecks : List ℕ → List ℕ → List ℕ → ℕ → MemoryLayout → List Check
-loadBlocksChecks img arena d mapper sizes = imageCheck (length img) ∷ placesCheck d ∷ loadChecks mapper sizes (length arena)
+abbrev pub loadBlocksChecks : List ℕ → List ℕ → List ℕ → ℕ → MemoryLayout → Options → List Check
+loadBlocksChecks img arena d mapper sizes options =
+    roomCheck (options .«f800_protects») (length img) ∷ placesCheck d ∷ loadChecks mapper sizes (length arena)
 
-unfoldable pub hostLoadBlocks : List ℕ → List ℕ → List ℕ → ℕ → ℕ → ℕ → ℕ → MemoryLayout → Gives
-hostLoadBlocks img arena d mapper sub flags known sizes =
-    unlessRefused (loadBlocksChecks img arena d mapper sizes) (unaltered img arena) (loadGives arena mapper sub flags known sizes)
+unfoldable pub hostLoadBlocks : List ℕ → List ℕ → List ℕ → ℕ → ℕ → ℕ → ℕ → MemoryLayout → Options → Gives
+hostLoadBlocks img arena d mapper sub flags known sizes options =
+    unlessRefused (loadBlocksChecks img arena d mapper sizes options) (unaltered img arena)
+    (loadGives (length img) arena mapper sub flags known sizes options)
 
-unfoldable pub hostLoadPlaces : List ℕ → List ℕ → List ℕ → ℕ → MemoryLayout → List ℕ
-hostLoadPlaces img arena d mapper sizes = unlessKept (imageCheck (length img) ∷ []) d (loadDrops d mapper sizes arena)
+unfoldable pub hostLoadPlaces : List ℕ → List ℕ → List ℕ → ℕ → MemoryLayout → Options → List ℕ
+hostLoadPlaces img arena d mapper sizes options =
+    unlessKept (roomCheck (options .«f800_protects») (length img) ∷ []) d (loadDrops d mapper sizes arena)
 
 -- ---- CPU write: K5; N1, N2 of the image and of the directory, N7, N8
 
@@ -46,7 +51,8 @@ blocksOwn d s arena addr = directoryCheck d ∷ cpuOwn s arena addr
 
 unfoldable pub hostWriteBlocks : List ℕ → List ℕ → List ℕ → ℕ → ℕ → Gives
 hostWriteBlocks img arena d addr v =
-    let s = stateIn img in unlessRefused (onImage img (blocksOwn d s arena addr)) (unaltered img arena) (writeGives s arena addr v)
+    let s = stateIn img in
+    unlessRefused (onImage img (blocksOwn d s arena addr)) (unaltered img arena) (writeGives (length img) s arena addr v)
 
 unfoldable pub hostWritePlaces : List ℕ → List ℕ → List ℕ → ℕ → ℕ → List ℕ
 hostWritePlaces img arena d addr v = unlessKept (onImage img []) d (cpuWriteDrops d (stateIn img) arena addr v)

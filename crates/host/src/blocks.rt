@@ -1,5 +1,7 @@
 // The six calls of the C host that take a directory of blocks (K1 to K7, H4): 256 places of 64 bits that the host owns, all 0 where no
 // block is held.
+use crate::load::sizes_of;
+use board_state::Options;
 use call_blocks::calls::load;
 use directory::block::len_of;
 use directory::block::number_of;
@@ -9,12 +11,11 @@ use directory::register;
 use host_blocks::stored_on;
 use host_blocks::write_blocks_on;
 use image_read::reading::read_image;
-use image_write::sections::IMAGE_BYTES;
-use image_write::writing::put_state;
-use memory::layout::MemoryLayout;
+use image_write::writing::put_image;
+use image_write::writing::room_for;
 ghost use mathlib.Core.Path.{_≡_};
 ghost use Rattle.directory.specs.Calls.{registerRefusal, registered};
-ghost use Rattle.host.specs.Host.{sizesOf};
+ghost use Rattle.host.specs.Host.{sizesOf, optionsOf};
 ghost use Rattle.host.specs.Blocks.{hostLookup, hostFind, hostLoadBlocks, hostLoadPlaces, hostWriteBlocks, hostWritePlaces};
 ghost use Rattle.host.specs.Blocks.{hostStored, hostStoredPlaces};
 
@@ -51,7 +52,7 @@ pub extern "C" fn namco163_find(directory: &[u64], start: u16) -> u64
     len_of(w) as u64 * 256 + number_of(w) as u64 * 4_294_967_296
 }
 
-// A load that empties the directory too (K7). It reads neither image nor places.
+// A load with options that empties the directory too (K7). It reads neither image nor places.
 #[no_mangle]
 pub extern "C" fn namco163_load_blocks(
     image: &mut [u8],
@@ -67,26 +68,23 @@ pub extern "C" fn namco163_load_blocks(
     chr: u64,
     chr_ram: u64,
     ciram: u64,
+    f800_protects: u64,
 ) -> u64
     ensures { λ r. ⌜ r ≡ hostLoadBlocks (now (image .entry)) (now (arena .entry)) (now (directory .entry)) mapper submapper flags
-        «in_database» (sizesOf «prg_rom» «prg_ram» battery chr «chr_ram» ciram) .word ⌝ }
+        «in_database» (sizesOf «prg_rom» «prg_ram» battery chr «chr_ram» ciram) (optionsOf «f800_protects») .word ⌝ }
     ensures { λ r. ⌜ now (image .exit) ≡ hostLoadBlocks (now (image .entry)) (now (arena .entry)) (now (directory .entry)) mapper
-        submapper flags «in_database» (sizesOf «prg_rom» «prg_ram» battery chr «chr_ram» ciram) .image ⌝ }
+        submapper flags «in_database» (sizesOf «prg_rom» «prg_ram» battery chr «chr_ram» ciram) (optionsOf «f800_protects») .image ⌝ }
     ensures { λ r. ⌜ now (arena .exit) ≡ hostLoadBlocks (now (image .entry)) (now (arena .entry)) (now (directory .entry)) mapper
-        submapper flags «in_database» (sizesOf «prg_rom» «prg_ram» battery chr «chr_ram» ciram) .lent ⌝ }
+        submapper flags «in_database» (sizesOf «prg_rom» «prg_ram» battery chr «chr_ram» ciram) (optionsOf «f800_protects») .lent ⌝ }
     ensures { λ r. ⌜ now (directory .exit) ≡ hostLoadPlaces (now (image .entry)) (now (arena .entry)) (now (directory .entry)) mapper
-        (sizesOf «prg_rom» «prg_ram» battery chr «chr_ram» ciram) ⌝ }
+        (sizesOf «prg_rom» «prg_ram» battery chr «chr_ram» ciram) (optionsOf «f800_protects») ⌝ }
 {
-    if image.len() != IMAGE_BYTES {
+    if !room_for(f800_protects != 0, image.len()) {
         return 1;
     }
-    let sizes = MemoryLayout {
-        prg_rom: prg_rom,
-        prg_ram: prg_ram,
-        battery_ext: battery,
-        chr: chr,
-        chr_writable: chr_ram != 0,
-        ciram: ciram,
+    let sizes = sizes_of(prg_rom, prg_ram, battery, chr, chr_ram, ciram);
+    let options = Options {
+        f800_protects: f800_protects != 0,
     };
     let loaded = load(
         directory,
@@ -96,12 +94,13 @@ pub extern "C" fn namco163_load_blocks(
         flags,
         in_database != 0,
         sizes,
+        options,
     );
     if loaded.refusal != 0 {
         return loaded.refusal as u64;
     }
     let fresh = loaded.state;
-    put_state(image, fresh);
+    put_image(image, fresh);
     0
 }
 

@@ -1,19 +1,20 @@
-// The calls of the C host (H4): the six without a directory of blocks here, the six with one in blocks.rt. Each answers 64 bits, with its
+// The calls of the C host (H4): the seven without a directory of blocks here, the six with one in blocks.rt. Each answers 64 bits, with its
 // refusal number in the low 8, 0 for accepted (H6).
 mod blocks; // blocks.rt: register, lookup, find, and load, write and stored with a directory
+mod load; // load.rt: loads into an image
 
-use call_load::load;
+use crate::load::load_image;
+use crate::load::sizes_of;
+use board_state::Options;
 use host_preview::preview_on;
 use host_state::read_on;
 use host_state::reset_on;
 use host_state::run_on;
 use host_state::write_on;
 use image_read::reading::read_image;
-use image_write::sections::IMAGE_BYTES;
-use image_write::writing::put_state;
-use memory::layout::MemoryLayout;
 ghost use mathlib.Core.Path.{_≡_};
-ghost use Rattle.host.specs.Host.{sizesOf, hostLoad, hostReset, hostRead, hostWrite, hostRun};
+ghost use Rattle.board_state.specs.State.{noOptions};
+ghost use Rattle.host.specs.Host.{sizesOf, optionsOf, hostLoad, hostReset, hostRead, hostWrite, hostRun};
 
 // A fresh state for a cartridge, and its arena filled with zeros. Sizes are in bytes; `in_database` and `chr_ram` are 0 for no (H5).
 #[no_mangle]
@@ -32,30 +33,66 @@ pub extern "C" fn namco163_load(
     ciram: u64,
 ) -> u64
     ensures { λ r. ⌜ r ≡ hostLoad (now (image .entry)) (now (arena .entry)) mapper submapper flags «in_database»
-        (sizesOf «prg_rom» «prg_ram» battery chr «chr_ram» ciram) .word ⌝ }
+        (sizesOf «prg_rom» «prg_ram» battery chr «chr_ram» ciram) noOptions .word ⌝ }
     ensures { λ r. ⌜ now (image .exit) ≡ hostLoad (now (image .entry)) (now (arena .entry)) mapper submapper flags «in_database»
-        (sizesOf «prg_rom» «prg_ram» battery chr «chr_ram» ciram) .image ⌝ }
+        (sizesOf «prg_rom» «prg_ram» battery chr «chr_ram» ciram) noOptions .image ⌝ }
     ensures { λ r. ⌜ now (arena .exit) ≡ hostLoad (now (image .entry)) (now (arena .entry)) mapper submapper flags «in_database»
-        (sizesOf «prg_rom» «prg_ram» battery chr «chr_ram» ciram) .lent ⌝ }
+        (sizesOf «prg_rom» «prg_ram» battery chr «chr_ram» ciram) noOptions .lent ⌝ }
 {
-    if image.len() != IMAGE_BYTES {
-        return 1;
-    }
-    let sizes = MemoryLayout {
-        prg_rom: prg_rom,
-        prg_ram: prg_ram,
-        battery_ext: battery,
-        chr: chr,
-        chr_writable: chr_ram != 0,
-        ciram: ciram,
+    let sizes = sizes_of(prg_rom, prg_ram, battery, chr, chr_ram, ciram);
+    let options = Options {
+        f800_protects: false,
     };
-    let loaded = load(arena, mapper, submapper, flags, in_database != 0, sizes);
-    if loaded.refusal != 0 {
-        return loaded.refusal as u64;
-    }
-    let fresh = loaded.state;
-    put_state(image, fresh);
-    0
+    load_image(
+        image,
+        arena,
+        mapper,
+        submapper,
+        flags,
+        in_database,
+        sizes,
+        options,
+    )
+}
+
+// The same with the options of L19, each 0 for no.
+#[no_mangle]
+pub extern "C" fn namco163_load_options(
+    image: &mut [u8],
+    arena: &mut [u8],
+    mapper: u64,
+    submapper: u8,
+    flags: u8,
+    in_database: u64,
+    prg_rom: u64,
+    prg_ram: u64,
+    battery: u64,
+    chr: u64,
+    chr_ram: u64,
+    ciram: u64,
+    f800_protects: u64,
+) -> u64
+    ensures { λ r. ⌜ r ≡ hostLoad (now (image .entry)) (now (arena .entry)) mapper submapper flags «in_database»
+        (sizesOf «prg_rom» «prg_ram» battery chr «chr_ram» ciram) (optionsOf «f800_protects») .word ⌝ }
+    ensures { λ r. ⌜ now (image .exit) ≡ hostLoad (now (image .entry)) (now (arena .entry)) mapper submapper flags «in_database»
+        (sizesOf «prg_rom» «prg_ram» battery chr «chr_ram» ciram) (optionsOf «f800_protects») .image ⌝ }
+    ensures { λ r. ⌜ now (arena .exit) ≡ hostLoad (now (image .entry)) (now (arena .entry)) mapper submapper flags «in_database»
+        (sizesOf «prg_rom» «prg_ram» battery chr «chr_ram» ciram) (optionsOf «f800_protects») .lent ⌝ }
+{
+    let sizes = sizes_of(prg_rom, prg_ram, battery, chr, chr_ram, ciram);
+    let options = Options {
+        f800_protects: f800_protects != 0,
+    };
+    load_image(
+        image,
+        arena,
+        mapper,
+        submapper,
+        flags,
+        in_database,
+        sizes,
+        options,
+    )
 }
 
 // Kind 0 is soft, 1 is hard (N3).

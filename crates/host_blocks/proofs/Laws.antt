@@ -60,13 +60,13 @@ module _ (d : List ℕ) (s : State) (img arena : List ℕ) (addr v : ℕ) (r : W
       go true f = given-fit d (λ q. arena) _ f ∙ write-kept s arena addr v (λ z. h (number ∙ fit-number d own f ∙ z))
       go false f = given-unfit d [] (λ q. arena) _ f
 
-  pub blocks-called : let given = writeGives s arena addr v in
+  pub blocks-called : let given = writeGives (length img) s arena addr v in
       Called (withDirectory d (cpuChecks s (length arena) addr)) img arena given given (r .refusal)
   blocks-called = called _ img arena _ _ _ number refl
 
   -- accepted, what the write left
-  pub left : r .refusal ≡ 0 → writeLeft r (cpuWriteLeaves d s arena addr v)
-      ≡ unlessRefused (withDirectory d (cpuChecks s (length arena) addr)) (unaltered img arena) (writeGives s arena addr v)
+  pub left : r .refusal ≡ 0 → writeLeft (length img) r (cpuWriteLeaves d s arena addr v)
+      ≡ unlessRefused (withDirectory d (cpuChecks s (length arena) addr)) (unaltered img arena) (writeGives (length img) s arena addr v)
   left z =
-      ap (λ (x : Written). writeLeft x (cpuWriteLeaves d s arena addr v)) (own-write z)
-      ∙ ap (writeLeft (cpuWrite s arena addr v)) (arena-after z) ∙ blocks-called .accepted z
+      ap (λ (x : Written). writeLeft (length img) x (cpuWriteLeaves d s arena addr v)) (own-write z)
+      ∙ ap (writeLeft (length img) (cpuWrite s arena addr v)) (arena-after z) ∙ blocks-called .accepted z

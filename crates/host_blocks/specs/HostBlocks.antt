@@ -18,7 +18,7 @@ use Rattle.host_state.specs.HostState.{Gives, unaltered, writeGives}
 -- N2: refused by the directory, else as the write without one
 abbrev pub writeBlocksOn : List ℕ → State → List ℕ → List ℕ → ℕ → ℕ → Gives
 writeBlocksOn d s img arena addr v =
-    unlessRefused (withDirectory d (cpuChecks s (length arena) addr)) (unaltered img arena) (writeGives s arena addr v)
+    unlessRefused (withDirectory d (cpuChecks s (length arena) addr)) (unaltered img arena) (writeGives (length img) s arena addr v)
 
 -- ---- a store of the host's own into the arena: K5
 

@@ -4,15 +4,16 @@ use call_blocks::writes::cpu_write_known;
 use directory::drop_touched;
 use directory::fitness::fit;
 use directory_touched::shown_mask;
-use image_write::writing::put_state;
+use image_write::writing::put_image;
 use memory::Memory;
 ghost use mathlib.Core.Path.{_≡_};
+ghost use mathlib.Core.Bool.{true};
 ghost use mathlib.Core.List.{[]};
 ghost use lib.ListN.{length};
 ghost use Rattle.memory.specs.Range.{Sized};
 ghost use Rattle.board_state.specs.State.{Known};
 ghost use Rattle.call_refusals.specs.Refusals.{firstOf};
-ghost use Rattle.image_write.specs.Image.{imageBytes};
+ghost use Rattle.image_write.specs.Options.{optionSet, roomFor};
 ghost use Rattle.directory_touched.specs.Touched.{shownBy};
 ghost use Rattle.call_blocks.specs.Blocks.{withDirectory, cpuWriteDrops};
 ghost use Rattle.host_blocks.specs.HostBlocks.{writeBlocksOn, arenaByte, storedDrops};
@@ -26,7 +27,7 @@ pub fn write_blocks_on(
     val: u8,
     image: &mut [u8],
 ) -> u64
-    requires { ⌜ (length (now image) ≡ imageBytes) × Known s ⌝ }
+    requires { ⌜ (roomFor (optionSet s) (length (now image)) ≡ true) × Known s ⌝ }
     ensures { λ r. ⌜ r ≡ writeBlocksOn (now (d .entry)) s (now (image .entry)) (now (arena .entry)) addr val .word ⌝ }
     ensures { λ r. ⌜ now (image .exit)
         ≡ writeBlocksOn (now (d .entry)) s (now (image .entry)) (now (arena .entry)) addr val .image ⌝ }
@@ -39,7 +40,7 @@ pub fn write_blocks_on(
         return written.refusal as u64;
     }
     let next = written.state;
-    put_state(image, next);
+    put_image(image, next);
     (written.changed.chr.mask as u64) * 256 + written.changed.prg.mask
 }
 

@@ -19,15 +19,16 @@ use Rattle.call_refusals.specs.Refusals.{Check, firstOf, unlessRefused, resetCh
 use Rattle.call_refusals.proofs.Laws.{refused-is, accepted-is, number-is, cpu-good}
 use Rattle.call_cpu.specs.declared.calls.ByteRead.{ByteRead}
 use Rattle.call_cpu.specs.declared.calls.Written.{Written}
-use Rattle.call_cpu.specs.Calls.{cpuRead, refusedWrite, cpuWrite, cpuWriteArena}
+use Rattle.call_cpu.specs.Calls.{cpuRead, refusedWrite, writeRegister, cpuWrite, cpuWriteArena}
 use Rattle.call_reset.specs.Reset.{kindOf, resetState}
-use Rattle.call_run.specs.Run.{made}
+use Rattle.call_run.specs.Run.{clocks, made}
 use Rattle.call_run.proofs.run.Laws.{made-floor}
-use Rattle.image_write.specs.Image.{imageOf}
+use Rattle.image_write.specs.Options.{imageAt, optionSet, roomFor}
 use Rattle.thm_machine.specs.Calls.{cpuWrite as callWrite}
 use Rattle.thm_machine.specs.Board.{otherGives}
 use Rattle.thm_steps.proofs.Chip.{Keeps, after-read-keeps, reset-keeps}
 use Rattle.thm_range.proofs.Calls.{other-fits}
+use Rattle.thm_range.proofs.Options.{clocks-keep-options}
 use Rattle.host_state.specs.HostState.{Gives, unaltered, resetGives, readGives, writeGives, shortRun, shortSamples}
 
 -- ---- a call on a state, by the number q that it answered: refused, or it left g, which is what the definition gives
@@ -51,7 +52,8 @@ called cs img lent given g q is same =
 
 abbrev pub ResetCalled : State → List ℕ → ℕ → Altered → Type 0
 ResetCalled s img kind r =
-    Called (resetChecks s kind) img [] (resetGives s kind) (record { word = 0; image = imageOf (r .state); lent = [] }) (r .refusal)
+    Called (resetChecks s kind) img [] (resetGives (length img) s kind)
+    (record { word = 0; image = imageAt (length img) (r .state); lent = [] }) (r .refusal)
 
 pub reset-called : (s : State) (img : List ℕ) (kind : ℕ) (r : Altered) → r ≡ resetState s kind → ResetCalled s img kind r
 unfolding resetState
@@ -59,12 +61,12 @@ reset-called s img kind r e =
     let refusal : Altered → ℕ = λ x. x .refusal in
     called _ img [] _ _ _
     (ap refusal e ∙ number-is (resetChecks s kind) (λ q. record { refusal = q; state = s }) _ refusal refl (λ q. refl))
-    (ap (λ (x : Altered). record { word = 0; image = imageOf (x .state); lent = [] }) e)
+    (ap (λ (x : Altered). record { word = 0; image = imageAt (length img) (x .state); lent = [] }) e)
 
 abbrev pub ReadCalled : State → List ℕ → List ℕ → ℕ → ByteRead → Type 0
 ReadCalled s img arena addr r =
-    Called (cpuChecks s (length arena) addr) img arena (readGives s arena addr)
-    (record { word = r .byte * 2 ^ 8; image = imageOf (r .state); lent = arena }) (r .refusal)
+    Called (cpuChecks s (length arena) addr) img arena (readGives (length img) s arena addr)
+    (record { word = r .byte * 2 ^ 8; image = imageAt (length img) (r .state); lent = arena }) (r .refusal)
 
 pub read-called : (s : State) (img arena : List ℕ) (addr : ℕ) (r : ByteRead) → r ≡ cpuRead s arena addr → ReadCalled s img arena addr r
 unfolding cpuRead
@@ -73,14 +75,15 @@ read-called s img arena addr r e =
     called _ img arena _ _ _
     (ap refusal e
     ∙ number-is (cpuChecks s (length arena) addr) (λ q. record { refusal = q; byte = 0; state = s }) _ refusal refl (λ q. refl))
-    (ap (λ (x : ByteRead). record { word = x .byte * 2 ^ 8; image = imageOf (x .state); lent = arena }) e)
+    (ap (λ (x : ByteRead). record { word = x .byte * 2 ^ 8; image = imageAt (length img) (x .state); lent = arena }) e)
 
-abbrev pub writeLeft : Written → List ℕ → Gives
-writeLeft r arena = record { word = r .changed .chr .mask * 2 ^ 8 + r .changed .prg .mask; image = imageOf (r .state); lent = arena }
+abbrev pub writeLeft : ℕ → Written → List ℕ → Gives
+writeLeft n r arena = record { word = r .changed .chr .mask * 2 ^ 8 + r .changed .prg .mask; image = imageAt n (r .state); lent = arena }
 
 abbrev pub WriteCalled : State → List ℕ → List ℕ → ℕ → ℕ → Written → Type 0
 WriteCalled s img arena addr v r =
-    Called (cpuChecks s (length arena) addr) img arena (writeGives s arena addr v) (writeLeft r (cpuWriteArena s arena addr v)) (r .refusal)
+    Called (cpuChecks s (length arena) addr) img arena (writeGives (length img) s arena addr v)
+    (writeLeft (length img) r (cpuWriteArena s arena addr v)) (r .refusal)
 
 pub write-called : (s : State) (img arena : List ℕ) (addr v : ℕ) (r : Written) → r ≡ cpuWrite s arena addr v
     → WriteCalled s img arena addr v r
@@ -88,7 +91,7 @@ unfolding cpuWrite
 write-called s img arena addr v r e =
     let refusal : Written → ℕ = λ x. x .refusal in
     called _ img arena _ _ _ (ap refusal e ∙ number-is (cpuChecks s (length arena) addr) (refusedWrite s) _ refusal refl (λ q. refl))
-    (ap (λ (x : Written). writeLeft x (cpuWriteArena s arena addr v)) e)
+    (ap (λ (x : Written). writeLeft (length img) x (cpuWriteArena s arena addr v)) e)
 
 -- a refused write leaves the arena
 pub write-kept : (s : State) (arena : List ℕ) (addr v : ℕ) → (firstOf (cpuChecks s (length arena) addr) ≡ 0 → ⊥)
@@ -145,6 +148,35 @@ known-write s arena addr v r e b bytes z k =
     subst (λ (x : Written). Known (x .state)) (sym e)
     (other-fits (callWrite addr v) (record { state = s; arena = arena }) b
     (record { known = k; long = cpu-good s (length arena) addr z .0 .long; bytes = bytes }) .known)
+
+-- ---- and the bytes that held the state before hold it after
+
+room-same : (s t : State) (n : ℕ) → optionSet t ≡ optionSet s → roomFor (optionSet s) n ≡ true → roomFor (optionSet t) n ≡ true
+room-same s t n e r = subst (λ (x : Bool). roomFor x n ≡ true) (sym e) r
+
+pub room-reset : (s : State) (kind : ℕ) (r : Altered) (n : ℕ) → r ≡ resetState s kind → roomFor (optionSet s) n ≡ true
+    → roomFor (optionSet (r .state)) n ≡ true
+unfolding resetState
+room-reset s kind r n e =
+    let P : Altered → Type 0 = λ x. optionSet (x .state) ≡ optionSet s in
+    room-same s (r .state) n (subst P (sym e) (cond-holds P (eqb (firstOf (resetChecks s kind)) 0) _ _ refl refl))
+
+pub room-read : (s : State) (arena : List ℕ) (addr : ℕ) (r : ByteRead) (n : ℕ) → r ≡ cpuRead s arena addr → roomFor (optionSet s) n ≡ true
+    → roomFor (optionSet (r .state)) n ≡ true
+unfolding cpuRead
+room-read s arena addr r n e =
+    let P : ByteRead → Type 0 = λ x. optionSet (x .state) ≡ optionSet s in
+    room-same s (r .state) n (subst P (sym e) (cond-holds P (eqb (firstOf (cpuChecks s (length arena) addr)) 0) _ _ refl refl))
+
+pub room-write : (s : State) (arena : List ℕ) (addr v : ℕ) (r : Written) (n : ℕ) → r ≡ cpuWrite s arena addr v
+    → roomFor (optionSet s) n ≡ true → roomFor (optionSet (r .state)) n ≡ true
+unfolding cpuWrite writeRegister
+room-write s arena addr v r n e =
+    let P : Written → Type 0 = λ x. optionSet (x .state) ≡ optionSet s in
+    room-same s (r .state) n (subst P (sym e) (cond-holds P (eqb (firstOf (cpuChecks s (length arena) addr)) 0) _ _ refl refl))
+
+pub room-clocks : (s : State) (k n : ℕ) → roomFor (optionSet s) n ≡ true → roomFor (optionSet (clocks k s .state)) n ≡ true
+room-clocks s k n = room-same s (clocks k s .state) n (clocks-keep-options k s)
 
 -- a read outside the sound port leaves it as it was
 pub still-read : (s : State) (arena : List ℕ) (addr : ℕ) (r : ByteRead) → r ≡ cpuRead s arena addr → 0x5000 ≤ addr

@@ -6,12 +6,13 @@ use call_reset::reset;
 use call_run::run::SAMPLES_MOST;
 use host_samples::put_samples;
 use host_samples::run_into;
-use image_write::writing::put_state;
+use image_write::writing::put_image;
 ghost use Prim.Native.Nat.{_≤_};
 ghost use mathlib.Core.Path.{_≡_};
+ghost use mathlib.Core.Bool.{true};
 ghost use lib.ListN.{length};
 ghost use Rattle.board_state.specs.State.{Known};
-ghost use Rattle.image_write.specs.Image.{imageBytes, imageOf};
+ghost use Rattle.image_write.specs.Options.{imageAt, optionSet, roomFor};
 ghost use Rattle.host_samples.specs.Samples.{HoldsRun};
 ghost use Rattle.host_state.specs.HostState.{resetOn, readOn, writeOn, runOn, shortRun};
 
@@ -23,7 +24,7 @@ const SHORT_SAMPLES: usize = 128;
 
 // A reset of a state, and its image.
 pub fn reset_on(s: State, kind: u64, image: &mut [u8]) -> u64
-    requires { ⌜ length (now image) ≡ imageBytes ⌝ }
+    requires { ⌜ roomFor (optionSet s) (length (now image)) ≡ true ⌝ }
     ensures { λ r. ⌜ r ≡ resetOn s (now (image .entry)) kind .word ⌝ }
     ensures { λ r. ⌜ now (image .exit) ≡ resetOn s (now (image .entry)) kind .image ⌝ }
 {
@@ -32,13 +33,13 @@ pub fn reset_on(s: State, kind: u64, image: &mut [u8]) -> u64
         return altered.refusal as u64;
     }
     let after = altered.state;
-    put_state(image, after);
+    put_image(image, after);
     0
 }
 
 // A CPU read on the image's state, and the image of the state after it. Only the sound port at 4800..4FFF changes the state.
 pub fn read_on(s: State, arena: &[u8], addr: u16, image: &mut [u8]) -> u64
-    requires { ⌜ (length (now image) ≡ imageBytes) × (now image ≡ imageOf s) × Known s ⌝ }
+    requires { ⌜ (roomFor (optionSet s) (length (now image)) ≡ true) × (now image ≡ imageAt (length (now image)) s) × Known s ⌝ }
     ensures { λ r. ⌜ r ≡ readOn s (now (image .entry)) (now (arena .entry)) addr .word ⌝ }
     ensures { λ r. ⌜ now (image .exit) ≡ readOn s (now (image .entry)) (now (arena .entry)) addr .image ⌝ }
 {
@@ -51,13 +52,13 @@ pub fn read_on(s: State, arena: &[u8], addr: u16, image: &mut [u8]) -> u64
         return word;
     }
     let moved = got.state;
-    put_state(image, moved);
+    put_image(image, moved);
     word
 }
 
 // A CPU write on a state, and the image of the state after it.
 pub fn write_on(s: State, arena: &mut [u8], addr: u16, val: u8, image: &mut [u8]) -> u64
-    requires { ⌜ (length (now image) ≡ imageBytes) × Known s ⌝ }
+    requires { ⌜ (roomFor (optionSet s) (length (now image)) ≡ true) × Known s ⌝ }
     ensures { λ r. ⌜ r ≡ writeOn s (now (image .entry)) (now (arena .entry)) addr val .word ⌝ }
     ensures { λ r. ⌜ now (image .exit) ≡ writeOn s (now (image .entry)) (now (arena .entry)) addr val .image ⌝ }
     ensures { λ r. ⌜ now (arena .exit) ≡ writeOn s (now (image .entry)) (now (arena .entry)) addr val .lent ⌝ }
@@ -67,13 +68,13 @@ pub fn write_on(s: State, arena: &mut [u8], addr: u16, val: u8, image: &mut [u8]
         return written.refusal as u64;
     }
     let next = written.state;
-    put_state(image, next);
+    put_image(image, next);
     (written.changed.chr.mask as u64) * 256 + written.changed.prg.mask
 }
 
 // A run from a state by way of a buffer that holds what it makes, and the image of the state after it.
 fn run_through(s: State, n: u64, samples: &mut [u8], image: &mut [u8], buf: &mut [f32]) -> u64
-    requires { ⌜ (length (now image) ≡ imageBytes) × Known s × HoldsRun s n (length (now buf)) ⌝ }
+    requires { ⌜ (roomFor (optionSet s) (length (now image)) ≡ true) × Known s × HoldsRun s n (length (now buf)) ⌝ }
     ensures { λ r. ⌜ r ≡ runOn s (now (image .entry)) (now (samples .entry)) n .word ⌝ }
     ensures { λ r. ⌜ now (image .exit) ≡ runOn s (now (image .entry)) (now (samples .entry)) n .image ⌝ }
     ensures { λ r. ⌜ now (samples .exit) ≡ runOn s (now (image .entry)) (now (samples .entry)) n .lent ⌝ }
@@ -84,13 +85,13 @@ fn run_through(s: State, n: u64, samples: &mut [u8], image: &mut [u8], buf: &mut
     }
     put_samples(buf, ran.made, samples);
     let last = ran.state;
-    put_state(image, last);
+    put_image(image, last);
     (ran.made as u64) * 256 + (ran.rise as u64) * 4_294_967_296
 }
 
 // A short run has a small buffer, since a buffer is cleared first.
 fn run_short(s: State, n: u64, samples: &mut [u8], image: &mut [u8]) -> u64
-    requires { ⌜ (length (now image) ≡ imageBytes) × Known s × (n ≤ shortRun) ⌝ }
+    requires { ⌜ (roomFor (optionSet s) (length (now image)) ≡ true) × Known s × (n ≤ shortRun) ⌝ }
     ensures { λ r. ⌜ r ≡ runOn s (now (image .entry)) (now (samples .entry)) n .word ⌝ }
     ensures { λ r. ⌜ now (image .exit) ≡ runOn s (now (image .entry)) (now (samples .entry)) n .image ⌝ }
     ensures { λ r. ⌜ now (samples .exit) ≡ runOn s (now (image .entry)) (now (samples .entry)) n .lent ⌝ }
@@ -100,7 +101,7 @@ fn run_short(s: State, n: u64, samples: &mut [u8], image: &mut [u8]) -> u64
 }
 
 fn run_long(s: State, n: u64, samples: &mut [u8], image: &mut [u8]) -> u64
-    requires { ⌜ (length (now image) ≡ imageBytes) × Known s ⌝ }
+    requires { ⌜ (roomFor (optionSet s) (length (now image)) ≡ true) × Known s ⌝ }
     ensures { λ r. ⌜ r ≡ runOn s (now (image .entry)) (now (samples .entry)) n .word ⌝ }
     ensures { λ r. ⌜ now (image .exit) ≡ runOn s (now (image .entry)) (now (samples .entry)) n .image ⌝ }
     ensures { λ r. ⌜ now (samples .exit) ≡ runOn s (now (image .entry)) (now (samples .entry)) n .lent ⌝ }
@@ -111,7 +112,7 @@ fn run_long(s: State, n: u64, samples: &mut [u8], image: &mut [u8]) -> u64
 
 // A run from a state, and the image of the state after it.
 pub fn run_on(s: State, n: u64, samples: &mut [u8], image: &mut [u8]) -> u64
-    requires { ⌜ (length (now image) ≡ imageBytes) × Known s ⌝ }
+    requires { ⌜ (roomFor (optionSet s) (length (now image)) ≡ true) × Known s ⌝ }
     ensures { λ r. ⌜ r ≡ runOn s (now (image .entry)) (now (samples .entry)) n .word ⌝ }
     ensures { λ r. ⌜ now (image .exit) ≡ runOn s (now (image .entry)) (now (samples .entry)) n .image ⌝ }
     ensures { λ r. ⌜ now (samples .exit) ≡ runOn s (now (image .entry)) (now (samples .entry)) n .lent ⌝ }

@@ -51,9 +51,9 @@ pages-words (v ∷ w ∷ vs) (suc i) = pages-words vs i
 
 -- ---- the state of all fields
 
-fields-typed : (vs : List ℕ) → Fit widths vs → Typed (stateOf vs)
+fields-typed : (vs options : List ℕ) → Fit widths vs → Typed (stateOf vs options)
 unfolding stateOf stateFrom cutInto widths
-fields-typed vs f =
+fields-typed vs options f =
     let ps = cutInto partWidths vs in
     let fp = fit-cut partWidths vs f in
     let p0 = part ps 0 in let w0 = part partWidths 0 in let f0 = fp .0 in
@@ -89,8 +89,8 @@ fields-typed vs f =
     }
 
 -- the state of an image's fields, once it has passed the test
-pub image-known : (img : List ℕ) → inRange (stateOf (fieldsOf img)) ≡ true → Known (stateOf (fieldsOf img))
+pub image-known : (body options : List ℕ) → inRange (stateOf (fieldsOf body) options) ≡ true → Known (stateOf (fieldsOf body) options)
 unfolding fieldsOf
-image-known img e =
-    let t = fields-typed (fieldsOf img) (fit-unpack widths (wordOf img)) in
-    record { typed = t; range = state-in (stateOf (fieldsOf img)) t e }
+image-known body options e =
+    let t = fields-typed (fieldsOf body) options (fit-unpack widths (wordOf body)) in
+    record { typed = t; range = state-in (stateOf (fieldsOf body) options) t e }

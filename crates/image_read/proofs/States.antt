@@ -26,6 +26,7 @@ use Rattle.limits.specs.Limits.{usedMost, prgEntries, chrEntries}
 use Rattle.memory.specs.declared.layout.Layout.{Layout}
 use Rattle.memory.specs.Range.{UsedIn}
 use Rattle.image_write.specs.Image.{part, joined, partWidths, partFields, levelNum, pageWidths, pageFields, layoutWidths, widths, fields}
+use Rattle.image_write.specs.Options.{optionFields}
 use Rattle.image_write.specs.Pages.{PagesFit}
 use Rattle.image_write.proofs.Levels.{level-small}
 use Rattle.image_write.proofs.Parts.{_then_, fit-replicate}
@@ -43,7 +44,7 @@ used-back u l (inr h) = rw (h .0)
 -- ---- a state in range comes back from its fields
 
 module _ (s : State) (k : Known s) where
-  pub state-back : stateFrom (partFields s) ≡ s
+  pub state-back : stateFrom (partFields s) (optionFields s) ≡ s
   unfolding stateFrom
   state-back =
       let n = s .chip in
@@ -129,14 +130,14 @@ used-num zero h = refl
 used-num (suc zero) h = refl
 used-num (suc (suc v)) h = absurd (let z : ⊥ = omega arith in z)
 
-module _ (vs : List ℕ) (f : Fit widths vs) (k : Known (stateOf vs))
+module _ (vs options : List ℕ) (f : Fit widths vs) (k : Known (stateOf vs options))
     (mirroring : getD (part (cutInto partWidths vs) 1) 1 0 ≤ 4) where
-  pub fields-num : fields (stateOf vs) ≡ vs
+  pub fields-num : fields (stateOf vs options) ≡ vs
   unfolding stateOf stateFrom cutInto fields widths
   fields-num =
       let ps = cutInto partWidths vs in
       let fp = fit-cut partWidths vs f in
-      let s = stateFrom ps in
+      let s = stateFrom ps options in
       let g = k .range .chip .audio in
       let p0 = part ps 0 in let w0 = part partWidths 0 in let f0 = fp .0 in
       let regs : part (partFields s) 0 ≡ p0 =

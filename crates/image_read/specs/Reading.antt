@@ -1,6 +1,6 @@
 -- H1, N1, N2: image reading. The state that an image's fields make, and which images are accepted.
 use Prim.Native.Nat.{ℕ, zero, suc, _*_}
-use mathlib.Core.Bool.{Bool, not, _&&_}
+use mathlib.Core.Bool.{Bool, cond, not, _&&_}
 use mathlib.Core.List.{List, [], _∷_, map}
 use lib.Dec.{eqb, leb}
 use lib.Ieee.{binary32, ofBits}
@@ -24,7 +24,8 @@ use Rattle.board_state.specs.State.{inRange}
 use Rattle.call_refusals.specs.Refusals.{Check, unlessRefused}
 use Rattle.board_state.specs.None.{noState}
 use Rattle.image_read.specs.declared.reading.ReadImage.{ReadImage}
-use Rattle.image_write.specs.Image.{part, partWidths, widths}
+use Rattle.image_write.specs.Image.{imageBytes, part, partWidths, widths}
+use Rattle.image_write.specs.Options.{optionWidths}
 use Rattle.image_write.specs.Writing.{imageCheck}
 
 -- ---- fields back to what they were made of: H1
@@ -122,43 +123,72 @@ memoryFrom prg chr layout =
       «chr_pages» = pagesOf chr;
     }
 
--- the state of the thirteen parts
-unfoldable pub stateFrom : List (List ℕ) → State
-stateFrom ps =
+-- the state of the thirteen parts and the options
+unfoldable pub stateFrom : List (List ℕ) → List ℕ → State
+stateFrom ps options =
     record {
       chip =
           chipFrom (part ps 0) (part ps 1) (part ps 2) (part ps 3) (part ps 4)
           (audioFrom (part ps 5) (part ps 6) (part ps 7) (part ps 8) (part ps 9));
       memory = memoryFrom (part ps 10) (part ps 11) (part ps 12);
+      «f800_protects» = isSet (getD options 0 0);
     }
 
--- the state of all fields
-unfoldable pub stateOf : List ℕ → State
-stateOf vs = stateFrom (cutInto partWidths vs)
+-- the state of all fields and of the options
+unfoldable pub stateOf : List ℕ → List ℕ → State
+stateOf vs options = stateFrom (cutInto partWidths vs) options
 
 -- ---- which images are accepted: N1, N2
 
 -- R9: the mirroring is at most 4 and the state is in range, so the mapper is 19 or 210, the update counter at most 14, each output at most
 -- 3825, `out` of at most the bits of 3825, each page number that of an arena page, each page count at most R1's, CIRAM at least 1, and the
--- reserve used only where it has a page
-unfoldable pub fieldsOk : List ℕ → Bool
-fieldsOk vs = leb (getD (part (cutInto partWidths vs) 1) 1 0) 4 && inRange (stateOf vs)
+-- reserve used only where it has a page; and no option bit is set that means nothing
+unfoldable pub fieldsOk : List ℕ → List ℕ → Bool
+fieldsOk vs options =
+    leb (getD (part (cutInto partWidths vs) 1) 1 0) 4
+    && (eqb (getD options 1 0) 0
+    && inRange (stateOf vs options))
 
--- the fields of an image
+-- the fields of the bytes before the options
 unfoldable pub fieldsOf : List ℕ → List ℕ
-fieldsOf img = unpack widths (wordOf img)
+fieldsOf body = unpack widths (wordOf body)
+
+-- H9: the options of their byte
+abbrev pub optionsOf : ℕ → List ℕ
+optionsOf byte = unpack optionWidths byte
+
+-- H9: the bytes before the options, and the byte of options; a shorter image has zeros there
+abbrev pub bodyIn : List ℕ → List ℕ
+bodyIn img = take imageBytes img
+
+abbrev pub byteIn : List ℕ → ℕ
+byteIn img = getD img imageBytes 0
+
+-- H3: the state that an accepted image holds
+abbrev pub stateIn : List ℕ → State
+stateIn img = stateOf (fieldsOf (bodyIn img)) (optionsOf (byteIn img))
+
+-- R9: whether its fields are in range
+abbrev pub imageOk : List ℕ → Bool
+imageOk img = fieldsOk (fieldsOf (bodyIn img)) (optionsOf (byteIn img))
 
 -- N2: some field is out of range
 abbrev pub fieldsCheck : List ℕ → Check
-fieldsCheck vs = record { number = 2; holds = not (fieldsOk vs) }
+fieldsCheck img = record { number = 2; holds = not (imageOk img) }
 
 -- N20: image reading is refused by 1, then 2
 abbrev pub readChecks : List ℕ → List Check
-readChecks img = imageCheck (length img) ∷ fieldsCheck (fieldsOf img) ∷ []
+readChecks img = imageCheck (length img) ∷ fieldsCheck img ∷ []
 
 -- N21: a refused read was given no state: it answers the one that a refused load answers
 abbrev pub refusedRead : ℕ → ReadImage
 refusedRead q = record { refusal = q; state = noState }
 
 unfoldable pub readImage : List ℕ → ReadImage
-readImage img = unlessRefused (readChecks img) refusedRead (record { refusal = 0; state = stateOf (fieldsOf img) })
+readImage img = unlessRefused (readChecks img) refusedRead (record { refusal = 0; state = stateIn img })
+
+-- the same of an image in two pieces, once its length has passed
+unfoldable pub readBody : List ℕ → ℕ → ReadImage
+readBody body byte =
+    let vs = fieldsOf body in let options = optionsOf byte in
+    cond (fieldsOk vs options) (record { refusal = 0; state = stateOf vs options }) (refusedRead 2)

@@ -1,5 +1,6 @@
 -- H1: the parts of an image as they lie in its bytes, and as the words that the code reads them in.
 use Prim.Native.Nat.{ℕ, _-_, _^_, _<_}
+use mathlib.Core.Bool.{Bool}
 use mathlib.Core.List.{List, [], _∷_, _++_}
 use lib.ListN.{take, drop, replicate}
 use Rattle.bits.specs.Fields.{unpack}
@@ -7,6 +8,7 @@ use Rattle.bits.specs.Words.{wordOf}
 use Rattle.memory.specs.declared.Memory.{Memory}
 use Rattle.sound.specs.declared.audio.Audio.{Audio}
 use Rattle.board_chip.specs.declared.namco163.Namco163.{Namco163}
+use Rattle.board_state.specs.declared.State.{State}
 use Rattle.image_write.specs.Image.{imageBytes, part, chipWidths, soundWidths, memoryWidths}
 use Rattle.image_write.specs.Sections.{ramAt, portAt, levelsAt, outAt, phasesAt, prgPagesAt, chrPagesAt, layoutAt}
 use Rattle.image_read.specs.declared.reading.Head.{Head}
@@ -56,3 +58,8 @@ memoryAt img =
     (fieldsAt (part memoryWidths 0) img prgPagesAt (chrPagesAt - prgPagesAt))
     (fieldsAt (part memoryWidths 1) img chrPagesAt (layoutAt - chrPagesAt))
     (fieldsAt (part memoryWidths 2) img layoutAt (imageBytes - layoutAt))
+
+-- the state, given the board's words, the bits of `out` and the option
+abbrev pub stateAt : List ℕ → Head → ℕ → Bool → State
+stateAt img h bits protects =
+    record { chip = chipOf h (soundAt img bits); memory = memoryAt img; «f800_protects» = protects }

@@ -20,6 +20,7 @@ use image_write::sections::CHIP_AT;
 use image_write::sections::IMAGE_BYTES;
 use image_write::sections::LAYOUT_AT;
 use image_write::sections::LEVELS_AT;
+use image_write::sections::OPTIONS_IMAGE_BYTES;
 use image_write::sections::OUT_AT;
 use image_write::sections::PHASES_AT;
 use image_write::sections::PORT_AT;
@@ -37,8 +38,8 @@ ghost use Rattle.limits.specs.Limits.{outMost};
 ghost use Rattle.sound.specs.Levels.{whole};
 ghost use Rattle.image_write.specs.Image.{imageBytes, chipWidths, joined};
 ghost use Rattle.image_write.specs.Sections.{chipAt, ramAt, portAt, levelsAt, outAt, phasesAt, prgPagesAt};
-ghost use Rattle.image_read.specs.Reading.{refusedRead, readImage};
-ghost use Rattle.image_read.specs.Sections.{fieldsAt, headParts, HeadFits, chipOf, soundAt, memoryAt};
+ghost use Rattle.image_read.specs.Reading.{refusedRead, readImage, readBody};
+ghost use Rattle.image_read.specs.Sections.{fieldsAt, headParts, HeadFits, chipOf, soundAt, memoryAt, stateAt};
 
 // What a read answers. Where it is refused, the state is one that no call accepts.
 pub struct ReadImage {
@@ -223,10 +224,10 @@ fn refused(number: u8) -> ReadImage
     }
 }
 
-// The state of an image of IMAGE_BYTES bytes, given the board's words and the bits of `out`.
-fn read_fields(img: &[u8], h: Head, bits: u32) -> State
+// The state of IMAGE_BYTES bytes, given the board's words, the bits of `out` and the option.
+fn read_fields(img: &[u8], h: Head, bits: u32, protects: bool) -> State
     requires { ⌜ (length (now img) ≡ imageBytes) × HeadFits h × (bits ≤ outMost) ⌝ }
-    ensures { λ r. ⌜ r ≡ record { chip = chipOf h (soundAt (now (img .entry)) bits); memory = memoryAt (now (img .entry)) } ⌝ }
+    ensures { λ r. ⌜ r ≡ stateAt (now (img .entry)) h bits protects ⌝ }
 {
     let m = read_memory(img);
     let audio = read_sound(img, bits);
@@ -234,15 +235,17 @@ fn read_fields(img: &[u8], h: Head, bits: u32) -> State
     State {
         chip: chip,
         memory: m,
+        f800_protects: protects,
     }
 }
 
-// Reads an image. It answers the refusal number, and the state where it is accepted.
-pub fn read_image(img: &[u8]) -> ReadImage
-    ensures { λ r. ⌜ r ≡ readImage (now (img .entry)) ⌝ }
+// Reads the IMAGE_BYTES bytes before the options, given the byte of options.
+fn read_body(img: &[u8], options: u8) -> ReadImage
+    requires { ⌜ length (now img) ≡ imageBytes ⌝ }
+    ensures { λ r. ⌜ r ≡ readBody (now (img .entry)) options ⌝ }
 {
-    if img.len() != IMAGE_BYTES {
-        return refused(1);
+    if options % 128 != 0 {
+        return refused(2);
     }
     let bits = load(img, OUT_AT, 4, 0);
     let h = read_head(img);
@@ -252,7 +255,7 @@ pub fn read_image(img: &[u8]) -> ReadImage
     if 4 < h.detection / 2 % 8 {
         return refused(2);
     }
-    let s = read_fields(img, h, bits as u32);
+    let s = read_fields(img, h, bits as u32, options / 128 == 1);
     if in_range(s) {
         return ReadImage {
             refusal: 0,
@@ -260,4 +263,18 @@ pub fn read_image(img: &[u8]) -> ReadImage
         };
     }
     refused(2)
+}
+
+// Reads an image of either length. It answers the refusal number, and the state where it is accepted.
+pub fn read_image(img: &[u8]) -> ReadImage
+    ensures { λ r. ⌜ r ≡ readImage (now (img .entry)) ⌝ }
+{
+    if img.len() == IMAGE_BYTES {
+        return read_body(img, 0);
+    }
+    if img.len() != OPTIONS_IMAGE_BYTES {
+        return refused(1);
+    }
+    let options = img[IMAGE_BYTES];
+    read_body(&img[..IMAGE_BYTES], options)
 }

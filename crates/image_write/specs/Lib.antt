@@ -2,4 +2,5 @@
 pub mod Image
 pub mod Sections
 pub mod Pages
+pub mod Options
 pub mod Writing

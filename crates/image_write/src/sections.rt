@@ -2,6 +2,9 @@
 
 pub const IMAGE_BYTES: usize = 307;
 
+// With the byte of options behind it.
+pub const OPTIONS_IMAGE_BYTES: usize = 308;
+
 // The board.
 pub const CHIP_AT: usize = 0;
 

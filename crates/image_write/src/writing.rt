@@ -5,6 +5,7 @@ use crate::sections::CHIP_AT;
 use crate::sections::IMAGE_BYTES;
 use crate::sections::LAYOUT_AT;
 use crate::sections::LEVELS_AT;
+use crate::sections::OPTIONS_IMAGE_BYTES;
 use crate::sections::OUT_AT;
 use crate::sections::PHASES_AT;
 use crate::sections::PORT_AT;
@@ -26,17 +27,20 @@ use memory::Memory;
 use sound::audio::Audio;
 use sound::levels::whole_part;
 ghost use mathlib.Core.Path.{_≡_};
+ghost use mathlib.Core.Bool.{true};
 ghost use mathlib.Core.List.{[], _∷_, map};
 ghost use Prim.Native.Nat.{_+_, _*_, _<_, _≤_};
 ghost use lib.Ieee.{binary32, toBits};
 ghost use lib.ListN.{length, replicate};
 ghost use Rattle.bits.specs.Cursor.{Held, Wrote};
+ghost use Rattle.bits.specs.Fields.{bit};
 ghost use Rattle.board_state.specs.State.{BanksIn, Known};
 ghost use Rattle.sound.specs.Range.{OutInRange, Levels, Phases, InRange as AudioInRange};
 ghost use Rattle.memory.specs.Range.{MemoryInRange};
 ghost use Rattle.image_write.specs.Image.{imageBytes, chipWidths, chipFields, soundWidths};
 ghost use Rattle.image_write.specs.Image.{soundFields, levelNum, memoryWidths, memoryFields, joined, imageOf, byteAt};
 ghost use Rattle.image_write.specs.Sections.{chipAt, ramAt, portAt, levelsAt, outAt, phasesAt, prgPagesAt};
+ghost use Rattle.image_write.specs.Options.{imageAt, optionSet, roomFor};
 ghost use Rattle.image_write.specs.Writing.{writeRefusal, writtenImage};
 
 // The twelve CHR banks, a byte each, from any bit on.
@@ -202,15 +206,50 @@ pub fn put_state(img: &mut [u8], s: State)
     put_memory(img, m);
 }
 
+fn options_byte(protects: bool) -> u8
+    ensures { λ r. ⌜ r ≡ bit protects * 128 ⌝ }
+{
+    if protects {
+        return 0x80;
+    }
+    0
+}
+
+// The image of a state that is known to be in range, at the length of the lent bytes.
+pub fn put_image(img: &mut [u8], s: State)
+    requires { ⌜ (roomFor (optionSet s) (length (now img)) ≡ true) × Known s ⌝ }
+    ensures { λ _. ⌜ now (img .exit) ≡ imageAt (length (now (img .entry))) s ⌝ }
+{
+    if img.len() == IMAGE_BYTES {
+        put_state(img, s);
+        return;
+    }
+    put_state(&mut img[..IMAGE_BYTES], s);
+    img[IMAGE_BYTES] = options_byte(s.f800_protects);
+}
+
+// Whether so many bytes hold an image, `set` being whether an option is set in it.
+pub fn room_for(set: bool, len: usize) -> bool
+    ensures { λ r. ⌜ r ≡ roomFor set len ⌝ }
+{
+    if len == OPTIONS_IMAGE_BYTES {
+        return true;
+    }
+    if len != IMAGE_BYTES {
+        return false;
+    }
+    !set
+}
+
 // Writes a state's image over the lent bytes. Answers the refusal number.
 pub fn write_image(s: State, img: &mut [u8]) -> u8
     ensures { λ r. ⌜ (r ≡ writeRefusal s (length (now (img .entry)))) × (now (img .exit) ≡ writtenImage s (now (img .entry))) ⌝ }
 {
-    if img.len() != IMAGE_BYTES {
+    if !room_for(s.f800_protects, img.len()) {
         return 1;
     }
     if in_range(s) {
-        put_state(img, s);
+        put_image(img, s);
         return 0;
     }
     2

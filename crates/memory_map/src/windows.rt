@@ -53,7 +53,7 @@ fn region_page(region: Region, offset: usize) -> Page
 }
 
 // The offset kept, the flag set; an unmapped entry stays unmapped.
-fn with_flag(page: Page, writable: bool) -> Page
+pub fn with_flag(page: Page, writable: bool) -> Page
     ensures { λ r. ⌜ r ≡ withFlag writable page ⌝ }
 {
     if page.0 == 0 {

@@ -23,6 +23,7 @@ pub struct Cartridge {
     pub flags: u8,
     pub known: bool,
     pub sizes: MemoryLayout,
+    pub f800_protects: bool,
 }
 
 pub enum Call {
@@ -42,7 +43,9 @@ pub enum Call {
     Reset(u64),
     SyncBattery,
     RestoreBattery,
+    // The image at its shorter length, and in so many bytes.
     Image,
+    ImageIn(usize),
     Arena,
     // A block's start, length and number.
     Register(u16, u64, u32),
@@ -71,7 +74,34 @@ fn ten_numbers(line: &[u8]) -> Numbers {
     Numbers { good: true, n: n }
 }
 
+// Whether F800 protects, by an eleventh number, if there is one: the options of an image's byte.
+enum Edition {
+    Protects(bool),
+    Malformed,
+}
+
+fn parse_options(line: &[u8]) -> Edition {
+    if spaces(line) == 10 {
+        return Edition::Protects(false);
+    }
+    let parsed = parse_number(word(line, 11));
+    let Number::Value(options) = parsed else {
+        return Edition::Malformed;
+    };
+    if options == 0 {
+        return Edition::Protects(false);
+    }
+    if options == 0x80 {
+        return Edition::Protects(true);
+    }
+    Edition::Malformed
+}
+
 fn load(line: &[u8]) -> Call {
+    let chosen = parse_options(line);
+    let Edition::Protects(protects) = chosen else {
+        return Call::Malformed;
+    };
     let parsed = ten_numbers(line);
     let n = parsed.n;
     let submapper = n[1];
@@ -99,6 +129,7 @@ fn load(line: &[u8]) -> Call {
         flags: flags as u8,
         known: n[3] != 0,
         sizes: sizes,
+        f800_protects: protects,
     })
 }
 
@@ -218,13 +249,29 @@ fn register(line: &[u8]) -> Call {
     Call::Register(start, len, number as u32)
 }
 
+// The most bytes that an image is lent.
+pub const IMAGE_ROOM: usize = 1024;
+
+fn image(line: &[u8]) -> Call {
+    if spaces(line) == 0 {
+        return Call::Image;
+    }
+    let parsed = parse_number(word(line, 1));
+    let Number::Value(len) = parsed else {
+        return Call::Malformed;
+    };
+    if (IMAGE_ROOM as u64) < len {
+        return Call::Malformed;
+    }
+    Call::ImageIn(len as usize)
+}
+
 // A call of one word.
 fn alone(n: Name) -> Call {
     match n {
         Name::Sram => Call::Sram,
         Name::SyncBattery => Call::SyncBattery,
         Name::RestoreBattery => Call::RestoreBattery,
-        Name::Image => Call::Image,
         Name::Arena => Call::Arena,
         Name::Directory => Call::Directory,
         _ => Call::Malformed,
@@ -234,11 +281,12 @@ fn alone(n: Name) -> Call {
 // How many words may stand behind the name.
 fn fits(n: Name, words: usize) -> bool {
     match n {
-        Name::Load => words == 10,
+        Name::Load => (words == 10) | (words == 11),
         Name::Read | Name::Peek | Name::ChrRead | Name::Reset | Name::Lookup => words == 1,
         Name::Write | Name::Preview | Name::ChrWrite | Name::RegionPeek | Name::Run => words == 2,
         Name::RegionWrite | Name::Register => words == 3,
         Name::Fill => (words == 1) | (words == 2),
+        Name::Image => words <= 1,
         _ => words == 0,
     }
 }
@@ -258,6 +306,7 @@ pub fn parse_call(n: Name, line: &[u8], bytes: &mut [u8]) -> Call {
         Name::Run => run(line),
         Name::Reset => reset(line),
         Name::Register => register(line),
+        Name::Image => image(line),
         _ => alone(n),
     }
 }

@@ -124,7 +124,7 @@ pub fn put_usage(out: &mut [u8], at: usize, n: Name) -> usize {
         Name::Load => put_all(
             out,
             at,
-            b"load and ten numbers, the second and third up to $FF",
+            b"load and ten numbers, the second and third up to $FF, or eleven with OPTIONS of $80 or 0",
         ),
         Name::Read => put_all(out, at, b"read ADDR, up to $FFFF"),
         Name::Peek => put_all(out, at, b"peek ADDR, up to $FFFF"),
@@ -140,7 +140,7 @@ pub fn put_usage(out: &mut [u8], at: usize, n: Name) -> usize {
         Name::Reset => put_all(out, at, b"reset soft or reset hard"),
         Name::SyncBattery => put_all(out, at, b"sync-battery alone"),
         Name::RestoreBattery => put_all(out, at, b"restore-battery alone"),
-        Name::Image => put_all(out, at, b"image alone"),
+        Name::Image => put_all(out, at, b"image alone, or image LENGTH, up to 1024"),
         Name::Arena => put_all(out, at, b"arena alone"),
         Name::Register => put_all(
             out,

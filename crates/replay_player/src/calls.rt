@@ -1,6 +1,7 @@
 // Each call on the cartridge, and its answer.
 use crate::player::Player;
 use crate::player::within;
+use board_state::Options;
 use board_state::State;
 use call_answers::Altered;
 use call_answers::Peeked;
@@ -17,6 +18,7 @@ use memory::layout::Src;
 use replay_answers::answers;
 use replay_calls::call::Call;
 use replay_calls::call::Cartridge;
+use replay_calls::call::IMAGE_ROOM;
 
 // The length of the arena that a load is lent: none for a layout over a limit.
 fn arena_len(sizes: MemoryLayout) -> usize {
@@ -37,6 +39,9 @@ pub fn load(
 ) -> Player {
     let sizes = cartridge.sizes;
     let n = within(arena_len(sizes), arena);
+    let options = Options {
+        f800_protects: cartridge.f800_protects,
+    };
     let r: Loaded = call_blocks::calls::load(
         directory,
         &mut arena[..n],
@@ -45,6 +50,7 @@ pub fn load(
         cartridge.flags,
         cartridge.known,
         sizes,
+        options,
     );
     let at = p.out_len;
     p.out_len = answers::ok(out, at, r.refusal);
@@ -228,10 +234,15 @@ fn sync_battery(
     answers::ok(out, at, refusal)
 }
 
-fn image(s: State, out: &mut [u8], at: usize) -> usize {
-    let mut img = [0u8; IMAGE_BYTES];
-    let refusal = write_image(s, &mut img);
-    answers::image(out, at, refusal, &img)
+fn image_into(s: State, img: &mut [u8], out: &mut [u8], at: usize) -> usize {
+    let refusal = write_image(s, img);
+    answers::image(out, at, refusal, img)
+}
+
+fn image(s: State, out: &mut [u8], at: usize, len: usize) -> usize {
+    let mut img = [0u8; IMAGE_ROOM];
+    let n = within(len, &img);
+    image_into(s, &mut img[..n], out, at)
 }
 
 // The calls that leave the state as it is, and `answer` hands it no other: answers where the next byte of the answers goes.
@@ -256,7 +267,8 @@ fn keeping(
         }
         Call::Sram => sram(s, out, at),
         Call::SyncBattery => sync_battery(s, directory, arena, out, at),
-        Call::Image => image(s, out, at),
+        Call::Image => image(s, out, at, IMAGE_BYTES),
+        Call::ImageIn(len) => image(s, out, at, len),
         Call::Arena => answers::arena(out, at, arena),
         _ => at,
     }

@@ -29,7 +29,7 @@ use Rattle.call_load.specs.Cartridge.{memoryAtLoad, freshState}
 use Rattle.thm_machine.specs.Start.{Loaded, loaded}
 use Rattle.thm_machine.proofs.Start.{load-starts}
 use Rattle.thm_range.proofs.Calls.{memory-load}
-use Rattle.thm_steps.proofs.Banking.{update-banks-kept}
+use Rattle.thm_steps.proofs.Protection.{remap-banks-kept}
 use Rattle.thm_blocks.specs.Calls.{HeldBlocks, BlockCall, base, register, lookup, NumberTyped, BlockAnswer, found, none}
 use Rattle.thm_blocks.specs.Board.{blockReply, blockGives, blockRun, blockBoard}
 use Rattle.thm_blocks.specs.Paper.{blockChecks, placesAfter}
@@ -298,8 +298,8 @@ fresh-typed : (l : Loaded) → Typed (fresh l)
 unfolding freshState
 fresh-typed l =
     subst (λ (h : Held). MemoryTyped (h .state .memory)) (sym (load-starts l))
-    (update-banks-kept (chipAtLoad (l .mapper) (l .submapper) (l .flags) (l .known)) (memoryAtLoad (l .mapper) (l .sizes)) .typed
-    (memory-load (l .mapper) (l .sizes)))
+    (remap-banks-kept (l .options .«f800_protects») (chipAtLoad (l .mapper) (l .submapper) (l .flags) (l .known))
+    (memoryAtLoad (l .mapper) (l .sizes)) .typed (memory-load (l .mapper) (l .sizes)))
 
 pub handed-out-from-load : (l : Loaded) (calls : List (Call Float BlockCall)) → AllTyped NumberTyped calls → (a n k : ℕ)
     → HandsOut (after calls (fresh l)) a n k → Since calls (fresh l) a n k

@@ -19,7 +19,8 @@ use Rattle.memory.specs.Page.{unmapped, offsetOf}
 use Rattle.memory_bytes.specs.Bytes.{prgPeek, store}
 use Rattle.board_chip.specs.declared.reads.Served.the-variants.{Nothing}
 use Rattle.board_chip.specs.Reads.{byteOr}
-use Rattle.board_registers.specs.Writes.{writeChip, remaps}
+use Rattle.board_registers.specs.Writes.{writeChip}
+use Rattle.board_protection.specs.Protection.{remapsIn}
 use Rattle.board_state.specs.declared.State.{State}
 use Rattle.board_state.specs.State.{inRange}
 use Rattle.board_state.proofs.Range.{memory-good}
@@ -43,7 +44,7 @@ use Rattle.thm_machine.specs.Calls.{reset, syncBattery, restoreBattery, writeIm
 use Rattle.thm_machine.specs.Paper.{checks, answers}
 use Rattle.thm_machine.specs.Board.{runGives}
 use Rattle.thm_range.proofs.Calls.{run-memory}
-use Rattle.thm_steps.proofs.Banking.{update-banks-kept}
+use Rattle.thm_steps.proofs.Protection.{remap-banks-kept}
 use Rattle.thm_work_ram.proofs.Lists.{none-served}
 use Rattle.thm_blocks.specs.Calls.{HeldBlocks, BlockCall, base, register, lookup, NumberTyped}
 use Rattle.thm_blocks.specs.Board.{blockGives, blockRun}
@@ -181,8 +182,9 @@ starts s e k h = memory-good s e .ranged .prg k h .pageStart
 pub typed-write : (s : State) (addr v : ℕ) → MemoryTyped (s .memory) → MemoryTyped (writeRegister s addr v .memory)
 unfolding writeRegister
 typed-write s addr v t =
-    cond-holds MemoryTyped (remaps (s .chip .board) (writeChip (s .chip) addr v .board) addr) _ _
-    (update-banks-kept (writeChip (s .chip) addr v) (s .memory) .typed t) t
+    let protects = s .«f800_protects» in
+    let n = writeChip (s .chip) addr v in
+    cond-holds MemoryTyped (remapsIn protects (s .chip .board) (n .board) addr) _ _ (remap-banks-kept protects n (s .memory) .typed t) t
 
 -- a call that leaves the tables `new` and stores at `at`, and drops by them: of the block of a, that it goes or stays
 module _ (a t : ℕ) (g h : HeldBlocks) (f : fit (h .places) ≡ true) (p : g .places ≡ dropped t (h .places)) where

@@ -3,7 +3,7 @@
 -- `requires`; only functions beside them have one, as the variants `.._known` for a state that is known to be in range.
 use Prim.Native.Nat.{ℕ, _+_, _^_, _≤_, _<_}
 use mathlib.Core.Path.{_≡_, refl}
-use mathlib.Core.Bool.{true, false, not, _&&_}
+use mathlib.Core.Bool.{Bool, true, false, not, _&&_}
 use mathlib.Core.List.{List, [], _∷_, _++_}
 use mathlib.Core.Logic.{_⊎_, _↔_}
 use lib.Ieee.{Float}
@@ -15,22 +15,28 @@ use Rattle.cut.specs.Machine.{machine}
 use Rattle.memory.specs.declared.Memory.{Memory}
 use Rattle.memory.specs.declared.layout.MemoryLayout.{MemoryLayout}
 use Rattle.memory.specs.Range.{MemoryTyped, Bytes}
+use Rattle.board_chip.specs.declared.namco163.Board.{Board}
 use Rattle.board_chip.specs.declared.namco163.Namco163.{Namco163}
 use Rattle.board_chip.specs.Load.{mirroringAtLoad}
+use Rattle.board_chip.specs.Namco163.{is163}
+use Rattle.board_registers.specs.Writes.{remaps}
 use Rattle.board_banking.specs.Banking.{updateBanks}
+use Rattle.board_protection.specs.Protection.{remapBanks, remapsIn, FlagsAlone}
+use Rattle.board_protection.proofs.Laws.{flags-alone, old-tables, old-writes, other-tables, other-writes}
+use Rattle.board_state.specs.declared.Options.{Options}
 use Rattle.board_state.specs.declared.State.{State}
 use Rattle.board_state.specs.State.{Known}
-use Rattle.call_refusals.specs.Refusals.{firstOf, kindCheck, loadChecks}
+use Rattle.call_refusals.specs.Refusals.{firstOf, kindCheck}
 use Rattle.call_idle.specs.Idle.{idle, counted}
 use Rattle.call_run.specs.Clock.{stateClock}
 use Rattle.call_run.specs.Run.{runChecks, runGave}
 use Rattle.call_run.proofs.run.Laws.{refused-run}
-use Rattle.image_write.specs.Image.{imageOf}
-use Rattle.image_write.specs.Writing.{imageCheck}
-use Rattle.image_read.specs.Reading.{readImage}
-use Rattle.image_read.proofs.RoundTrip.{read-written, written-read}
+use Rattle.image_write.specs.Image.{imageBytes}
+use Rattle.image_write.specs.Options.{imageAt, optionSet, roomFor}
+use Rattle.image_read.specs.Reading.{stateIn, readImage}
+use Rattle.image_read.proofs.RoundTrip.{read-written, written-read, lengthened}
 use Rattle.host_state.specs.HostState.{unaltered, runOwn}
-use Rattle.host.specs.Host.{onImage, stateIn, cpuOwn, hostLoad, hostReset, hostRead, hostWrite, hostRun}
+use Rattle.host.specs.Host.{onImage, cpuOwn, hostLoadChecks, hostLoad, hostReset, hostRead, hostWrite, hostRun}
 use Rattle.host.specs.Blocks.{hostLookup, loadBlocksChecks, hostLoadBlocks, hostLoadPlaces, blocksOwn, hostWriteBlocks, hostWritePlaces}
 use Rattle.host.specs.Blocks.{hostStored, hostStoredPlaces}
 use Rattle.host.proofs.Refused as Host
@@ -43,7 +49,9 @@ use Rattle.thm_machine.specs.Counter.{counterOf, lineOf, NoneTouches}
 use Rattle.thm_machine.proofs.Demand3 as Machine
 use Rattle.thm_range.specs.Fit.{Fit}
 use Rattle.thm_range.proofs.Lists.{always-fit, never-2-or-7}
+use Rattle.thm_range.proofs.Options.{always-options}
 use Rattle.thm_range.proofs.Refused.{other-refused}
+use Rattle.thm_steps.proofs.Banking.{update-banks-kept}
 use Rattle.idle_runs.specs.Idle.{Still, Least}
 use Rattle.thm_idle.proofs.Idle.{idle-is-still, counted-is-least}
 use Rattle.directory.specs.Fit.{fit}
@@ -61,13 +69,15 @@ use Rattle.thm_settled.specs.Settled.{StaysSettled, StaysDetecting, StaysFixed,
 use Rattle.thm_settled.proofs.Settled.{stays-settled, stays-detecting, stays-fixed, settled-from-load, type-of-load}
 use Rattle.thm_work_ram.specs.Rust.{rustUpdateBanks}
 use Rattle.thm_work_ram.specs.ZeroPage.{ZeroPage, NoWorkRam}
-use Rattle.thm_work_ram.proofs.Mapping.{ram-as-rust, no-ram}
+use Rattle.thm_work_ram.proofs.Mapping.{ram-as-rust, no-ram-either}
 use Rattle.thm_work_ram.proofs.Lists.{zero-page, work-ram-reads}
 use Rattle.thm_wiki.specs.Notes.{start as fresh}
 use Rattle.thm_wiki.specs.Lists.{beside, Plain}
 use Rattle.thm_wiki.specs.Agrees.{Agrees163, Agrees175, Agrees340}
+use Rattle.thm_wiki.specs.Protection.{atLoad, protectIn, MeetsPage}
 use Rattle.thm_wiki.proofs.Agrees163.{agrees-163}
 use Rattle.thm_wiki.proofs.Agrees210.{agrees-175, agrees-340}
+use Rattle.thm_wiki.proofs.Protection.{protected-163}
 
 -- ---- D1: an unfit call gets the number of its first check that holds, and leaves state, arena and samples as they were
 
@@ -80,9 +90,9 @@ pub demand-1-run : (s : State) (n : ℕ) (lent : List Float) → (firstOf (runCh
 demand-1-run s n lent = refused-run s n lent (firstOf (runChecks s n (length lent))) refl
 
 -- D1, H6 of the C calls: the number is the whole word, and image, arena and sample bytes stay
-pub demand-1-load : (img arena : List ℕ) (mapper sub flags known : ℕ) (sizes : MemoryLayout)
-    → let cs = imageCheck (length img) ∷ loadChecks mapper sizes (length arena) in
-    (firstOf cs ≡ 0 → ⊥) → hostLoad img arena mapper sub flags known sizes ≡ unaltered img arena (firstOf cs)
+pub demand-1-load : (img arena : List ℕ) (mapper sub flags known : ℕ) (sizes : MemoryLayout) (options : Options)
+    → let cs = hostLoadChecks img arena mapper sizes options in
+    (firstOf cs ≡ 0 → ⊥) → hostLoad img arena mapper sub flags known sizes options ≡ unaltered img arena (firstOf cs)
 demand-1-load = Host.load-refused
 
 pub demand-1-on-image : (img lent : List ℕ) (addr v kind n : ℕ) → let s = stateIn img in
@@ -103,11 +113,11 @@ pub demand-1-directory : (d : List ℕ) (start len number : ℕ) → let rs = re
     × ((firstOf ls ≡ 0 → ⊥) → hostLookup d start ≡ firstOf ls)
 demand-1-directory d start len number = (Host.register-refused d start len number, Host.lookup-refused d start)
 
-pub demand-1-load-blocks : (img arena d : List ℕ) (mapper sub flags known : ℕ) (sizes : MemoryLayout)
-    → let cs = loadBlocksChecks img arena d mapper sizes in
+pub demand-1-load-blocks : (img arena d : List ℕ) (mapper sub flags known : ℕ) (sizes : MemoryLayout) (options : Options)
+    → let cs = loadBlocksChecks img arena d mapper sizes options in
     (firstOf cs ≡ 0 → ⊥)
-    → (hostLoadBlocks img arena d mapper sub flags known sizes ≡ unaltered img arena (firstOf cs))
-    × (hostLoadPlaces img arena d mapper sizes ≡ d)
+    → (hostLoadBlocks img arena d mapper sub flags known sizes options ≡ unaltered img arena (firstOf cs))
+    × (hostLoadPlaces img arena d mapper sizes options ≡ d)
 demand-1-load-blocks = Host.load-blocks-refused
 
 pub demand-1-blocks : (img arena d : List ℕ) (addr v offset : ℕ)
@@ -132,8 +142,9 @@ demand-2-refusals = never-2-or-7
 pub work-ram-as-rust : (n : Namco163) (m : Memory) → MemoryTyped m → 1 ≤ m .layout .«prg_ram» → updateBanks n m ≡ rustUpdateBanks n m
 work-ram-as-rust = ram-as-rust
 
-pub work-ram-unmapped : (n : Namco163) (m : Memory) → MemoryTyped m → m .layout .«prg_ram» ≡ 0 → NoWorkRam (updateBanks n m)
-work-ram-unmapped = no-ram
+pub work-ram-unmapped : (protects : Bool) (n : Namco163) (m : Memory) → MemoryTyped m → m .layout .«prg_ram» ≡ 0
+    → NoWorkRam (remapBanks protects n m)
+work-ram-unmapped = no-ram-either
 
 pub zero-page-stays : (l : Loaded) → l .submapper < 2 ^ 8 → (calls : List (Call Float Other)) → AllTyped CallTyped calls
     → ZeroPage (observed board calls (loaded l) .state .arena)
@@ -175,6 +186,31 @@ type-fixed = stays-fixed
 
 pub type-at-load : TypeOfLoad
 type-at-load = type-of-load
+
+-- ---- L19 to L21: the options are the load's after every list of calls; where F800 does not protect, page tables are made by the Rust's
+-- rules and when the Rust makes them, and so on a board that is no 163; on a 163 they differ in flags of work RAM alone (W12: D2.2)
+
+pub options-kept : (l : Loaded) (calls : List (Call Float Other))
+    → observed board calls (loaded l) .state .state .«f800_protects» ≡ l .options .«f800_protects»
+options-kept = always-options
+
+pub old-edition : (n : Namco163) (m : Memory) (old new : Board) (a : ℕ)
+    → (remapBanks false n m ≡ updateBanks n m) × (remapsIn false old new a ≡ remaps old new a)
+old-edition n m old new a = (old-tables n m, old-writes old new a)
+
+pub other-boards : (protects : Bool) (n : Namco163) (m : Memory) (old : Board) (a : ℕ) → is163 (n .board) ≡ false
+    → (remapBanks protects n m ≡ updateBanks n m) × (remapsIn protects old (n .board) a ≡ remaps old (n .board) a)
+other-boards protects n m old a e = (other-tables protects n m e, other-writes protects old (n .board) a e)
+
+pub flags-of-work-ram-alone : (n : Namco163) (m : Memory) → MemoryTyped m → is163 (n .board) ≡ true
+    → FlagsAlone (updateBanks n m) (remapBanks true n m)
+flags-of-work-ram-alone n m t e = flags-alone n m e (update-banks-kept n m .typed t .prg)
+
+-- L24: and a 163 that does not detect has the wiki's flags (W12), but for the time from a hard reset to the next write to 8000..FFFF
+pub f800-meets-the-page : (l : Loaded) → l .mapper ≡ 19 → l .known ≡ true → l .options .«f800_protects» ≡ true
+    → (calls : List (Call Float Other))
+    → MeetsPage (protectIn calls (loaded l) atLoad) (observed board calls (loaded l) .state .state)
+f800-meets-the-page = protected-163
 
 -- ---- D3.1, C19: a list is what the plain machine does with it, so how clocks are cut into runs does not show
 
@@ -231,8 +267,9 @@ blocks-dropped = cause-drops
 
 -- K7: word, image and arena of the C calls are those without a directory, where it is fit; of a load, where it has 256 places
 
-pub blocks-load-as-without : (img arena d : List ℕ) (mapper sub flags known : ℕ) (sizes : MemoryLayout) → length d ≡ 256
-    → hostLoadBlocks img arena d mapper sub flags known sizes ≡ hostLoad img arena mapper sub flags known sizes
+pub blocks-load-as-without : (img arena d : List ℕ) (mapper sub flags known : ℕ) (sizes : MemoryLayout) (options : Options)
+    → length d ≡ 256
+    → hostLoadBlocks img arena d mapper sub flags known sizes options ≡ hostLoad img arena mapper sub flags known sizes options
 blocks-load-as-without = Host.load-blocks-as-load
 
 pub blocks-write-as-without : (img arena d : List ℕ) (addr v : ℕ) → fit d ≡ true
@@ -253,8 +290,14 @@ demand-3-blocks-cutting = block-cut-blind
 
 -- ---- H3: what is written is read back, and what is read is written back
 
-pub image-of-state : (s : State) → Known s → readImage (imageOf s) ≡ record { refusal = 0; state = s }
+pub image-of-state : (s : State) → Known s → (n : ℕ) → roomFor (optionSet s) n ≡ true
+    → readImage (imageAt n s) ≡ record { refusal = 0; state = s }
 image-of-state = read-written
 
-pub state-of-image : (img : List ℕ) → Bytes img → readImage img .refusal ≡ 0 → imageOf (readImage img .state) ≡ img
-state-of-image = written-read
+pub state-of-image : (img : List ℕ) → Bytes img → readImage img .refusal ≡ 0 → let s = readImage img .state in
+    (roomFor (optionSet s) (length img) ≡ true) × (imageAt (length img) s ≡ img)
+state-of-image img b e = let z = written-read img b e in (z .roomy, z .same)
+
+-- H10: an image without options is read as the longer one with 0 behind it
+pub image-lengthened : (img : List ℕ) → length img ≡ imageBytes → readImage (img ++ (0 ∷ [])) ≡ readImage img
+image-lengthened = lengthened

@@ -28,6 +28,7 @@ use Rattle.board_chr.specs.Slots.{setsCiram, writeSlot, writeNametable, writeC0
 use Rattle.board_prg.specs.Banks.{mirroringE000, detectE000, highBitsE000, writeE000, writeE800, writeF000, writeF800}
 use Rattle.board_registers.specs.Writes.{writeSoundData, writeCounterLow, writeCounterHigh, writeWorkRam, writeChip, remaps}
 use Rattle.board_banking.specs.Banking.{mapSlot, mapSlots, mapChrTable, mapRom, mapWorkRam, updateBanks}
+use Rattle.board_protection.specs.Protection.{remapBanks, remapsIn}
 use Rattle.board_state.specs.declared.State.{State}
 use Rattle.board_state.specs.None.{noState}
 use Rattle.board_state.specs.State.{chipOk, inRange}
@@ -51,6 +52,7 @@ unfolding right table every withinLimits layoutOf arenaOrder pagesBefore pagesOf
     mayChange maybeSetBoard boardAtLoad detectingAtLoad mirroringAtLoad chipAtLoad clockCounter
     setsCiram writeSlot writeNametable writeC000 writeC800 mirroringE000 detectE000 highBitsE000 writeE000 writeE800 writeF000 writeF800
     writeSoundData writeCounterLow writeCounterHigh writeWorkRam writeChip remaps mapSlot mapSlots mapChrTable mapRom mapWorkRam updateBanks
+    remapBanks remapsIn
     noState chipOk inRange firstOf writeRegister cpuWrite memoryAtLoad freshState loadAnswer
     soundSample chipClock stateClock made runGave moves nextCounter risesFrom tick ticks
     isNan toBits ofBits ofFields ofInt round units odd size span climb add sum mul div

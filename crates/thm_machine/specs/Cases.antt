@@ -15,6 +15,7 @@ use Rattle.board_state.specs.declared.State.{State}
 use Rattle.call_cpu.specs.declared.calls.Written.{Written}
 use Rattle.call_cpu.specs.Calls.{cpuWrite}
 use Rattle.call_load.specs.declared.Loaded.{Loaded}
+use Rattle.board_state.specs.State.{noOptions}
 use Rattle.call_load.specs.Cartridge.{loadAnswer}
 use Rattle.call_run.specs.Run.{clocks, runGave}
 
@@ -28,7 +29,7 @@ bytesP = 53248
 
 -- T0: a load of P as mapper 19, known to the database, and its state
 abbrev pub loadP : ℕ → Loaded
-loadP reserve = loadAnswer 19 0 0 true (sizesP reserve) bytesP
+loadP reserve = loadAnswer 19 0 0 true (sizesP reserve) noOptions bytesP
 
 abbrev pub p : State
 p = loadP 128 .state

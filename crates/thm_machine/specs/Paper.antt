@@ -20,7 +20,7 @@ use Rattle.call_cpu.specs.Calls.{cpuByte, writeRegister}
 use Rattle.memory.specs.Changes.{changes}
 use Rattle.call_reset.specs.Reset.{kindOf}
 use Rattle.call_battery.specs.Battery.{batteryBytes}
-use Rattle.image_write.specs.Image.{imageOf}
+use Rattle.image_write.specs.Options.{imageAt}
 use Rattle.image_write.specs.Writing.{writeChecks}
 use Rattle.call_run.specs.Clock.{stateClock}
 use Rattle.call_run.specs.Run.{runChecks}
@@ -79,7 +79,7 @@ answers syncBattery h = toArena done h (overlay (h .arena) (regionIn (h .state .
 answers restoreBattery h =
     let chip = h .state .chip in
     toState done h (withChip (h .state) (withAudio chip (withRam (chip .audio) (batteryBytes (h .state) (h .arena)))))
-answers (writeImage buffer) h = saying (image (imageOf (h .state))) h
+answers (writeImage buffer) h = saying (image (imageAt (length buffer) (h .state))) h
 
 -- C15 to C17: what the plain machine goes by
 abbrev pub paper : Paper Held Float Other Answer

@@ -6,6 +6,7 @@ use mathlib.Core.List.{List}
 use lib.ListN.{length, replicate}
 use Rattle.memory.specs.declared.layout.MemoryLayout.{MemoryLayout}
 use Rattle.memory.specs.Layout.{layoutOf, arenaLen}
+use Rattle.board_state.specs.declared.Options.{Options}
 use Rattle.call_load.specs.Cartridge.{freshState, loadAnswer, loadArena}
 use Rattle.call_refusals.specs.Refusals.{firstOf, loadChecks}
 use Rattle.thm_machine.specs.Calls.{Held}
@@ -17,6 +18,7 @@ pub record Loaded : Type 0 where
   pub flags : ℕ
   pub known : Bool
   pub sizes : MemoryLayout
+  pub options : Options
   pub arena : List ℕ
   pub accepted : firstOf (loadChecks mapper sizes (length arena)) ≡ 0
 
@@ -24,7 +26,7 @@ pub record Loaded : Type 0 where
 abbrev pub loaded : Loaded → Held
 loaded l =
     record {
-      state = loadAnswer (l .mapper) (l .submapper) (l .flags) (l .known) (l .sizes) (length (l .arena)) .state;
+      state = loadAnswer (l .mapper) (l .submapper) (l .flags) (l .known) (l .sizes) (l .options) (length (l .arena)) .state;
       arena = loadArena (l .mapper) (l .sizes) (l .arena);
     }
 
@@ -32,6 +34,6 @@ loaded l =
 abbrev pub zeroed : Loaded → Held
 zeroed l =
     record {
-      state = freshState (l .mapper) (l .submapper) (l .flags) (l .known) (l .sizes);
+      state = freshState (l .mapper) (l .submapper) (l .flags) (l .known) (l .sizes) (l .options);
       arena = replicate (arenaLen (layoutOf (l .sizes))) 0;
     }

@@ -35,8 +35,8 @@ use Rattle.sound.proofs.registers.Range.{ram-range, ram-typed}
 use Rattle.board_chip.specs.declared.namco163.Namco163.{Namco163}
 use Rattle.board_chip.specs.Load.{chipAtLoad}
 use Rattle.board_chip.specs.Namco163.{withAudio}
-use Rattle.board_registers.specs.Writes.{writeChip, remaps}
-use Rattle.board_banking.specs.Banking.{updateBanks}
+use Rattle.board_registers.specs.Writes.{writeChip}
+use Rattle.board_protection.specs.Protection.{remapBanks, remapsIn}
 use Rattle.board_state.specs.declared.State.{State}
 use Rattle.board_state.specs.State.{mapperOk, Known, withChip}
 use Rattle.board_state.proofs.Range.{mapper-in, known-passes}
@@ -58,7 +58,8 @@ use Rattle.thm_machine.specs.Start.{Loaded, loaded, zeroed}
 use Rattle.thm_machine.proofs.Keeps.{keeps-other}
 use Rattle.thm_machine.proofs.Start.{load-starts}
 use Rattle.thm_steps.proofs.Chip.{Keeps, keeps-audio, after-read-keeps, write-keeps, reset-keeps, load-typed, load-in-range}
-use Rattle.thm_steps.proofs.Banking.{Kept, kept-self, update-banks-ranged, update-banks-kept, mask-multiple}
+use Rattle.thm_steps.proofs.Banking.{Kept, kept-self, mask-multiple}
+use Rattle.thm_steps.proofs.Protection.{remap-banks-ranged, remap-banks-kept}
 use Rattle.thm_steps.proofs.Clock.{chip-clock-keeps}
 use Rattle.thm_range.specs.Fit.{Fit}
 
@@ -72,8 +73,8 @@ record Stays (m k : Memory) : Type 0 where
 stays : (m : Memory) → Stays m m
 stays m = record { ranged = λ r. r; kept = kept-self m }
 
-mapped : (n : Namco163) (m : Memory) → Stays m (updateBanks n m)
-mapped n m = record { ranged = update-banks-ranged n m; kept = update-banks-kept n m }
+mapped : (protects : Bool) (n : Namco163) (m : Memory) → Stays m (remapBanks protects n m)
+mapped protects n m = record { ranged = remap-banks-ranged protects n m; kept = remap-banks-kept protects n m }
 
 memory-range : (m k : Memory) → Stays m k → MemoryInRange m → MemoryInRange k
 memory-range m k q h = record { ranged = q .ranged (h .ranged); used = rw (q .kept .used, q .kept .layout) (h .used) }
@@ -140,7 +141,9 @@ register-stays : (s : State) (addr v : ℕ) → Stays (s .memory) (writeRegister
 unfolding writeRegister
 register-stays s addr v =
     let n = writeChip (s .chip) addr v in
-    cond-holds (Stays (s .memory)) (remaps (s .chip .board) (n .board) addr) _ _ (mapped n (s .memory)) (stays (s .memory))
+    let protects = s .«f800_protects» in
+    cond-holds (Stays (s .memory)) (remapsIn protects (s .chip .board) (n .board) addr) _ _ (mapped protects n (s .memory))
+    (stays (s .memory))
 
 register-keeps : (s : State) (addr v : ℕ) → v < 256 → Keeps (s .chip) (writeRegister s addr v .chip)
 unfolding writeRegister
@@ -304,7 +307,7 @@ zeroed-fits l sub =
     let h = accepted-none (loadChecks mapper sizes (length (l .arena))) (search needs) (l .accepted) in
     let g = load-good mapper sizes (length (l .arena)) (l .accepted) in
     let m = memoryAtLoad mapper sizes in
-    let q = mapped (chipAtLoad mapper (l .submapper) (l .flags) (l .known)) m in
+    let q = mapped (l .options .«f800_protects») (chipAtLoad mapper (l .submapper) (l .flags) (l .known)) m in
     let number = mapper-in mapper (not-false (mapperOk mapper) (h .0)) in
     record {
       known =

@@ -3,6 +3,7 @@ pub mod Decided
 pub mod Refused
 pub mod Calls
 pub mod Lists
+pub mod Options
 pub mod Runs
 pub mod Images
 pub mod Numbers

@@ -8,6 +8,7 @@ use lib.ListN.{length}
 use Rattle.cut.specs.Calls.{Gave, refused, answered}
 use Rattle.cut.specs.Machine.{Answered, plainly}
 use Rattle.memory.specs.declared.layout.MemoryLayout.{MemoryLayout}
+use Rattle.board_state.specs.declared.Options.{Options}
 use Rattle.board_state.specs.None.{noState}
 use Rattle.call_refusals.specs.Refusals.{Check, firstOf, loadChecks}
 use Rattle.call_refusals.proofs.Laws.{refused-is}
@@ -40,10 +41,10 @@ other-accepted a h e = rw (keeps-other a h, e)
 
 -- ---- N21, the load: a state that no call accepts, and the arena as it was
 
-module _ (mapper sub flags : ℕ) (known : Bool) (sizes : MemoryLayout) (arena : List ℕ)
+module _ (mapper sub flags : ℕ) (known : Bool) (sizes : MemoryLayout) (options : Options) (arena : List ℕ)
     (h : Refused (loadChecks mapper sizes (length arena))) where
   pub load-refused :
-      (loadAnswer mapper sub flags known sizes (length arena)
+      (loadAnswer mapper sub flags known sizes options (length arena)
       ≡ record { refusal = firstOf (loadChecks mapper sizes (length arena)); state = noState })
       × (loadArena mapper sizes arena ≡ arena)
   unfolding loadAnswer loadArena

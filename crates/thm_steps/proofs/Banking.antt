@@ -104,7 +104,7 @@ pub record Kept (m k : Memory) : Type 0 where
 pub kept-self : (m : Memory) → Kept m m
 kept-self m = record { layout = refl; used = refl; low = λ i h. refl; typed = λ q. q }
 
-kept-both : {m k l : Memory} → Kept m k → Kept k l → Kept m l
+pub kept-both : {m k l : Memory} → Kept m k → Kept k l → Kept m l
 kept-both p q =
     record {
       layout = q .layout ∙ p .layout;

@@ -22,7 +22,9 @@ use Rattle.board_chip.specs.declared.namco163.Board.the-variants.{Namco175, Nam
 use Rattle.board_chip.specs.Namco163.{is163}
 use Rattle.board_chip.specs.Detection.{prgRamReadable, prgRamWritable}
 use Rattle.board_chip.specs.Load.{boardAtLoad, detectingAtLoad, mirroringAtLoad}
-use Rattle.board_registers.specs.Writes.{writeChip, remaps}
+use Rattle.board_registers.specs.Writes.{writeChip}
+use Rattle.board_protection.specs.Protection.{remapsIn}
+use Rattle.board_state.specs.declared.Options.{Options}
 use Rattle.board_state.specs.declared.State.{State}
 use Rattle.board_state.specs.State.{Known}
 use Rattle.call_cpu.specs.Calls.{writeRegister}
@@ -36,10 +38,11 @@ use Rattle.thm_machine.specs.Start.{Loaded, loaded}
 use Rattle.thm_machine.proofs.Start.{load-starts}
 use Rattle.thm_range.proofs.Calls.{load-fits}
 use Rattle.thm_range.proofs.Lists.{always-fit}
-use Rattle.thm_steps.proofs.Banking.{Kept as MemoryKept, kept-self, update-banks-kept}
+use Rattle.thm_steps.proofs.Banking.{Kept as MemoryKept, kept-self}
+use Rattle.thm_steps.proofs.Protection.{remap-banks-kept}
 use Rattle.thm_wiki.specs.Registers.{wikiBit}
 use Rattle.thm_wiki.specs.Notes.{Noted, start}
-use Rattle.thm_wiki.specs.Shown.{Mapped, entryOf, prgEntry, ramEntry}
+use Rattle.thm_wiki.specs.Shown.{Mapped, entryOf, prgEntry, ramEntry, ramWritable}
 use Rattle.thm_wiki.specs.Lists.{beside, Plain}
 use Rattle.thm_wiki.specs.Agrees.{Agrees210, Agrees175, Agrees340, MirroredBy, RamIs, selectedBy}
 use Rattle.thm_wiki.proofs.Tests.{never}
@@ -54,8 +57,10 @@ use Rattle.thm_wiki.proofs.Lists.{Kept, along, plain-typed}
 used-kept : (s : State) (a v : ℕ) → writeRegister s a v .memory .«battery_ext_len» ≡ s .memory .«battery_ext_len»
 unfolding writeRegister
 used-kept s a v =
-    cond-holds (MemoryKept (s .memory)) (remaps (s .chip .board) (writeChip (s .chip) a v .board) a) _ _
-    (update-banks-kept (writeChip (s .chip) a v) (s .memory)) (kept-self (s .memory)) .used
+    let protects = s .«f800_protects» in
+    let n = writeChip (s .chip) a v in
+    cond-holds (MemoryKept (s .memory)) (remapsIn protects (s .chip .board) (n .board) a) _ _ (remap-banks-kept protects n (s .memory))
+    (kept-self (s .memory)) .used
 
 -- N12: so a restore is refused
 no-restore : (s : State) (len : ℕ) → s .memory .«battery_ext_len» ≡ 0 → firstOf (batteryChecks s len) ≡ 0 → ⊥
@@ -63,19 +68,24 @@ no-restore s len u e =
     let h = accepted-none (batteryChecks s len) (search needs) e in
     never (sym (eq-eqb (s .memory .«battery_ext_len») 0 u) ∙ h .1 .1 .0)
 
+-- L20: only a 163 is held to F800
+stores-other : (protects : Bool) (b : Board) (v i : ℕ) → is163 b ≡ false → ramWritable protects b v i ≡ prgRamWritable b v
+stores-other true b v i e = rw e
+stores-other false b v i e = refl
+
 module _ (b : Board) (m : Mirroring) (other : is163 b ≡ false) where
   -- ---- what every step keeps
 
   record Good (x : Noted) (s : State) : Type 0 where
     stands : Stands210 b m other x (s .chip)
-    mapped : Mapped (s .chip) (s .memory)
+    mapped : Mapped (s .«f800_protects») (s .chip) (s .memory)
     used : s .memory .«battery_ext_len» ≡ 0
 
   kept : Kept Good
   unfolding writeRegister stateClock
   kept =
       record {
-        write = λ x s a v small y q.
+        write = λ x s a v top small y q.
             record {
               stands = write-stands b m other x (s .chip) a v small (y .typed .chip) (q .stands);
               mapped = write-mapped s a v (firm-settled (s .chip) a v (q .stands .settled)) (y .typed .memory) (q .mapped);
@@ -84,13 +94,13 @@ module _ (b : Board) (m : Mirroring) (other : is163 b ≡ false) where
         read = λ x s a y q.
             record {
               stands = read-stands b m other x (s .chip) a (q .stands);
-              mapped = read-mapped (s .chip) a (s .memory) (q .mapped);
+              mapped = read-mapped (s .«f800_protects») (s .chip) a (s .memory) (q .mapped);
               used = q .used;
             };
         cycle = λ x s y q.
             record {
               stands = cycle-stands b m other x (s .chip) (y .typed .chip) (q .stands);
-              mapped = clock-mapped (s .chip) (s .memory) (q .mapped);
+              mapped = clock-mapped (s .«f800_protects») (s .chip) (s .memory) (q .mapped);
               used = q .used;
             };
         restore = λ x s len bytes e l y q. absurd (no-restore s len (q .used) e);
@@ -122,23 +132,26 @@ module _ (b : Board) (m : Mirroring) (other : is163 b ≡ false) where
 
     work-ram : RamIs s (prgRamReadable b) (prgRamWritable b (s .chip .regs .«prg_ram_protect»))
     work-ram i h =
+        let protects = s .«f800_protects» in
+        let v = s .chip .regs .«prg_ram_protect» in
         g .mapped .ram i h
-        ∙ ap (λ (o : Board). ramEntry (s .memory) (prgRamReadable o) (prgRamWritable o (s .chip .regs .«prg_ram_protect»)) i)
-        (g .stands .board)
+        ∙ (ap (λ (o : Board). ramEntry (s .memory) (prgRamReadable o) (ramWritable protects o v i) i) (g .stands .board)
+        ∙ ap (λ (t : Bool). ramEntry (s .memory) (prgRamReadable b) t i) (stores-other protects b v i other))
 
 -- ---- every list of calls from a load
 
-fresh-used : (sub flags : ℕ) (known : Bool) (sizes : MemoryLayout) → freshState 210 sub flags known sizes .memory .«battery_ext_len» ≡ 0
+fresh-used : (sub flags : ℕ) (known : Bool) (sizes : MemoryLayout) (options : Options)
+    → freshState 210 sub flags known sizes options .memory .«battery_ext_len» ≡ 0
 unfolding freshState memoryAtLoad
-fresh-used sub flags known sizes = update-banks-kept _ _ .used
+fresh-used sub flags known sizes options = remap-banks-kept (options .«f800_protects») _ _ .used
 
 -- the load of a list, by its numbers
 fresh-at : (l : Loaded) (sub : ℕ) (P : State → Type 0) → l .mapper ≡ 210 → l .submapper ≡ sub
-    → P (freshState 210 sub (l .flags) (l .known) (l .sizes)) → P (loaded l .state)
+    → P (freshState 210 sub (l .flags) (l .known) (l .sizes) (l .options)) → P (loaded l .state)
 fresh-at l sub P m e p =
     subst (λ (h : Held). P (h .state)) (sym (load-starts l))
-    (subst (λ (k : ℕ). P (freshState k (l .submapper) (l .flags) (l .known) (l .sizes))) (sym m)
-    (subst (λ (k : ℕ). P (freshState 210 k (l .flags) (l .known) (l .sizes))) (sym e) p))
+    (subst (λ (k : ℕ). P (freshState k (l .submapper) (l .flags) (l .known) (l .sizes) (l .options))) (sym m)
+    (subst (λ (k : ℕ). P (freshState 210 k (l .flags) (l .known) (l .sizes) (l .options))) (sym e) p))
 
 -- what stands after a list of calls
 record Reached (b : Board) (other : is163 b ≡ false) (l : Loaded) (x : Noted) (s : State) : Type 0 where
@@ -156,8 +169,8 @@ reached b other sub l small m e is quiet calls t =
     fresh-at l sub (Good b k other start) m e
     (record {
       stands = fresh-stands b k other sub (l .flags) (l .known) is quiet refl;
-      mapped = load-mapped 210 sub (l .flags) (l .known) (l .sizes);
-      used = fresh-used sub (l .flags) (l .known) (l .sizes);
+      mapped = load-mapped 210 sub (l .flags) (l .known) (l .sizes) (l .options);
+      used = fresh-used sub (l .flags) (l .known) (l .sizes) (l .options);
     }) in
     record {
       known = always-fit l byte calls (plain-typed calls t) .known;

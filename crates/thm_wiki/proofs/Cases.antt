@@ -2,10 +2,15 @@
 use Prim.Native.Nat.{ℕ}
 use mathlib.Core.Path.{_≡_, refl}
 use mathlib.Core.Bool.{true, false}
-use mathlib.Core.List.{List, [], _∷_}
+use mathlib.Core.List.{List, [], _∷_, map}
 use lib.IntN.{pos}
 use lib.ListN.{getD, replicate, set}
 use Rattle.limits.specs.Every.{every}
+use Rattle.memory.specs.Layout.{layoutOf, arenaOrder, pagesBefore, firstPage, regionOf}
+use Rattle.memory_map.specs.Mirroring.{nametablePage, mirrorPages, setMirroring}
+use Rattle.memory_map.specs.New.{unmappedMemory, newMemory}
+use Rattle.memory_map.specs.Windows.{banksOf, windowBase, regionPage, eachPage, showPages, mapPages, setWritable, mapPrg, mapChr}
+use Rattle.memory_map.specs.Windows.{setPrgWritable}
 use Rattle.sound.specs.Registers.{advanced, written}
 use Rattle.sound_wave.specs.Channel.{baseAddr, nibbleAt, nextPhase, levelAt}
 use Rattle.board_chip.specs.declared.namco163.Namco163.{Namco163}
@@ -13,7 +18,13 @@ use Rattle.board_chip.specs.Detection.{mayChange, maybeSetBoard, prgRamWritable
 use Rattle.board_chip.specs.Load.{boardAtLoad, detectingAtLoad, chipAtLoad}
 use Rattle.board_chr.specs.Slots.{setsCiram, writeSlot, writeNametable, writeC800}
 use Rattle.board_prg.specs.Banks.{detectE000, highBitsE000, writeE000, writeE800, writeF800}
-use Rattle.board_registers.specs.Writes.{writeSoundData, writeChip}
+use Rattle.board_registers.specs.Writes.{writeSoundData, writeChip, remaps}
+use Rattle.board_banking.specs.Banking.{mapSlot, mapSlots, mapChrTable, mapRom, mapWorkRam, updateBanks}
+use Rattle.board_protection.specs.Protection.{protectParts, remapBanks, remapsIn}
+use Rattle.board_state.specs.declared.State.{State}
+use Rattle.call_cpu.specs.Calls.{writeRegister}
+use Rattle.call_load.specs.Cartridge.{memoryAtLoad, freshState}
+use Rattle.thm_machine.specs.Cases.{sizesP, page, pageW, prg}
 use Rattle.thm_wiki.specs.Registers.{chrPage, nametable, noRegs, wikiWrite, wikiAllowed, wikiSelects, wikiShows, wikiShows210}
 use Rattle.thm_wiki.specs.Registers.{wikiPrgPage, wikiRamEnabled, wikiUnprotected}
 use Rattle.thm_wiki.specs.Sound.{wikiPhase, wikiNextPhase, wikiOutput}
@@ -57,6 +68,23 @@ unfolding steps step wikiWrite writeChip writeSlot setsCiram writeE000 detectE00
     boardAtLoad detectingAtLoad
 case-175 = ((refl, refl), (refl, refl))
 
+-- F800 = 41 in the edition where it protects: no store to work RAM before it, and after it to each part but the first
+abbrev protecting : State
+protecting = freshState 19 0 0 true (sizesP 128) (record { «f800_protects» = true })
+
+abbrev workRam : State → List ℕ
+workRam s = map (prg s) (24 ∷ 25 ∷ 26 ∷ 27 ∷ 28 ∷ 29 ∷ 30 ∷ 31 ∷ [])
+
+pub case-41 : (workRam protecting ≡ map page (41 ∷ 42 ∷ 43 ∷ 44 ∷ 45 ∷ 46 ∷ 47 ∷ 48 ∷ []))
+    × ((workRam (writeRegister protecting 0xF800 0x41)
+    ≡ page 41 ∷ page 42 ∷ pageW 43 ∷ pageW 44 ∷ pageW 45 ∷ pageW 46 ∷ pageW 47 ∷ pageW 48 ∷ [])
+    × (map (wikiUnprotected (steps start (write 0xF800 0x41 ∷ []) .machine .regs)) (0 ∷ 1 ∷ 2 ∷ 3 ∷ []) ≡ false ∷ true ∷ true ∷ true ∷ []))
+unfolding steps step wikiWrite freshState memoryAtLoad newMemory unmappedMemory setMirroring mirrorPages nametablePage layoutOf arenaOrder
+    pagesBefore firstPage regionOf banksOf windowBase regionPage eachPage showPages mapPages setWritable mapPrg mapChr setPrgWritable
+    chipAtLoad boardAtLoad detectingAtLoad maybeSetBoard mayChange remaps mapSlot mapSlots mapChrTable mapRom mapWorkRam updateBanks
+    protectParts remapBanks remapsIn writeRegister writeChip writeF800
+case-41 = (refl, (refl, refl))
+
 -- ---- departures
 
 -- W10: the select bits act when a slot is written. 8000 = E1, E800 = 40.
@@ -65,7 +93,7 @@ pub select-departs : (slotShows (writeChip (writeChip a163 0x8000 0xE1) 0xE800 0
 unfolding steps step wikiWrite wikiSelects wikiAllowed writeChip writeSlot setsCiram writeE800 chipAtLoad boardAtLoad
 select-departs = (refl, refl)
 
--- W12: before any write of F800 the wiki protects all of work RAM, and this board none of it
+-- W12: before any write of F800 the wiki protects all of work RAM, and this board none of it in the edition where F800 does not protect
 pub protect-departs : wikiUnprotected noRegs 0 ≡ false
 protect-departs = refl
 

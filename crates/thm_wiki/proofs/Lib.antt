@@ -14,4 +14,5 @@ pub mod Stands210
 pub mod Lists
 pub mod Agrees163
 pub mod Agrees210
+pub mod Protection
 pub mod Cases

@@ -1,6 +1,6 @@
 -- A relation between the wiki's machine and the board that each step keeps is kept by every list of public calls, refused ones among them.
 -- Assumes nothing.
-use Prim.Native.Nat.{ℕ, zero, suc, _<_}
+use Prim.Native.Nat.{ℕ, zero, suc, _^_, _<_}
 use mathlib.Core.Path.{_≡_, refl, sym, subst, _∙_}
 use mathlib.Core.Bool.{false}
 use mathlib.Core.List.{List, [], _∷_}
@@ -35,7 +35,7 @@ use Rattle.thm_range.specs.Fit.{Fit}
 use Rattle.thm_range.proofs.Calls.{other-fits, run-fits, clocks-known}
 use Rattle.thm_wiki.specs.Machine.{write, read, cycle, restore}
 use Rattle.thm_wiki.specs.Notes.{Noted, next, steps}
-use Rattle.thm_wiki.specs.Lists.{whenAccepted, actsOf, acts, beside, resets, Plain}
+use Rattle.thm_wiki.specs.Lists.{whenAccepted, actsOf, acts, beside, resets, AddressTyped, Plain}
 use Rattle.thm_wiki.proofs.Tests.{never}
 
 -- n cycles and one more
@@ -46,7 +46,7 @@ steps-more (suc n) x = steps-more n (next x cycle)
 
 -- what each step of the machine has to keep
 pub record Kept (P : Noted → State → Type 0) : Type 0 where
-  pub write : (x : Noted) (s : State) (a v : ℕ) → v < 256 → Known s → P x s → P (next x (write a v)) (writeRegister s a v)
+  pub write : (x : Noted) (s : State) (a v : ℕ) → a < 2 ^ 16 → v < 256 → Known s → P x s → P (next x (write a v)) (writeRegister s a v)
   pub read : (x : Noted) (s : State) (a : ℕ) → Known s → P x s → P (next x (read a)) (withChip s (afterRead (s .chip) a))
   pub cycle : (x : Noted) (s : State) → Known s → P x s → P (next x cycle) (stateClock s .state)
   pub restore : (x : Noted) (s : State) (len : ℕ) (bytes : List ℕ) → firstOf (batteryChecks s len) ≡ 0 → length bytes ≡ 128 → Known s
@@ -78,13 +78,13 @@ module _ (P : Noted → State → Type 0) (k : Kept P) where
       go (suc r) = unfold steps in q
 
   -- an accepted call other than a run
-  accepted-kept : (a : Other) (h : Held) (x : Noted) → ArgTyped a → resets a ≡ false → Fit h → Fit (answers a h .state)
+  accepted-kept : (a : Other) (h : Held) (x : Noted) → ArgTyped a × AddressTyped a → resets a ≡ false → Fit h → Fit (answers a h .state)
       → firstOf (checks a h) ≡ 0
       → P x (h .state) → P (steps x (actsOf a h)) (answers a h .state .state)
   unfolding answers steps checks
   accepted-kept (cpuRead addr) h x t r f g e q = k .read x (h .state) addr (f .known) q
   accepted-kept (cpuPeek addr) h x t r f g e q = q
-  accepted-kept (cpuWrite addr v) h x t r f g e q = k .write x (h .state) addr v t (f .known) q
+  accepted-kept (cpuWrite addr v) h x t r f g e q = k .write x (h .state) addr v (t .1) (t .0) (f .known) q
   accepted-kept (chrRead addr) h x t r f g e q = q
   accepted-kept (chrWrite addr v) h x t r f g e q = q
   accepted-kept (fill src bytes) h x t r f g e q = q
@@ -98,12 +98,12 @@ module _ (P : Noted → State → Type 0) (k : Kept P) where
       (g .known .typed .chip .audio .«ram-length») (f .known) q
   accepted-kept (writeImage buffer) h x t r f g e q = q
 
-  other-kept : (a : Other) (h : Held) (x : Noted) → ArgTyped a → resets a ≡ false → Fit h → P x (h .state)
+  other-kept : (a : Other) (h : Held) (x : Noted) → ArgTyped a × AddressTyped a → resets a ≡ false → Fit h → P x (h .state)
       → P (steps x (acts (other a) h)) (otherGives a h .state .state)
   unfolding acts
   other-kept a h x t r f q =
       rw (keeps-other a h)
-      (go (firstOf (checks a h)) refl (rw (keeps-other a h) at (other-fits a h t f)))
+      (go (firstOf (checks a h)) refl (rw (keeps-other a h) at (other-fits a h (t .0) f)))
     where
       go : (n : ℕ) → firstOf (checks a h) ≡ n → Fit (plainly (firstOf (checks a h)) (answers a h) h .state)
           → P (steps x (whenAccepted n (actsOf a h))) (plainly n (answers a h) h .state .state)
@@ -126,10 +126,10 @@ module _ (P : Noted → State → Type 0) (k : Kept P) where
       (subst (λ (h : Held). P y (h .state)) (sym e) (run-kept n lent (p .state) x f q)))
   along (other a ∷ calls) p x t f q =
       along calls (from (otherGives a (p .state) .state) (p .count)) (steps x (acts (other a) (p .state))) (t .1)
-      (other-fits a (p .state) (t .0 .0) f) (other-kept a (p .state) x (t .0 .0) (t .0 .1) f q)
+      (other-fits a (p .state) (t .0 .0 .0) f) (other-kept a (p .state) x (t .0 .0) (t .0 .1) f q)
 
 -- a list without a reset is one of arguments of their types
 pub plain-typed : (calls : List (Call Float Other)) → AllTyped Plain calls → AllTyped CallTyped calls
 plain-typed [] t = tt
 plain-typed (run n lent ∷ calls) t = (t .0, plain-typed calls (t .1))
-plain-typed (other a ∷ calls) t = (t .0 .0, plain-typed calls (t .1))
+plain-typed (other a ∷ calls) t = (t .0 .0 .0, plain-typed calls (t .1))

@@ -1,6 +1,6 @@
 -- W8 to W11: a 163's registers beside the wiki's, write by write. A slot selects by the select bits of its last write, which are noted.
 -- Assumes nothing.
-use Prim.Native.Nat.{ℕ, _-_, _/_, _%_, _≤_, _<_}
+use Prim.Native.Nat.{ℕ, _-_, _/_, _%_, _^_, _≤_, _<_}
 use mathlib.Core.Path.{_≡_, refl, sym, ap, _∙_}
 use mathlib.Core.Bool.{Bool, true, false, cond, not, _&&_}
 use mathlib.Core.List.{List}
@@ -171,6 +171,27 @@ pages-set prg upper i v p q h all k b = by (ℕ-discrete k i)
 pub pages-past : (prg upper : List ℕ) (i v : ℕ) → 3 ≤ i → ((k : ℕ) → k < 3 → getD prg k 0 ≡ getD upper k 0 % 64)
     → (k : ℕ) → k < 3 → getD prg k 0 ≡ getD (set upper i v) k 0 % 64
 pages-past prg upper i v h all k b = rw (getD-set-other upper i k v 0 (λ e. omega arith)) (all k b)
+
+-- W12: what F800 was written with last: no register below it changes that, and it does
+pub f800-kept : (w : WikiRegs) (a v : ℕ) → a < 0xF800 → getD (wikiWrite w a v .upper) 3 0 ≡ getD (w .upper) 3 0
+unfolding wikiWrite
+f800-kept w a v h = by (ltb a 0x8000) (ltb a 0xE000) refl
+  where
+    by : (x y : Bool) → ltb a 0xE000 ≡ y
+        → getD (cond x w
+        (cond y (record { windows = set (w .windows) ((a - 0x8000) / 0x800) v; upper = w .upper })
+        (record { windows = w .windows; upper = set (w .upper) ((a - 0xE000) / 0x800) v })) .upper) 3 0
+        ≡ getD (w .upper) 3 0
+    by true y e = refl
+    by false true e = refl
+    by false false e =
+        let l = ltb-false a 0xE000 e in getD-set-other (w .upper) ((a - 0xE000) / 0x800) 3 v 0 (λ z. omega arith)
+
+pub f800-written : (w : WikiRegs) (a v : ℕ) → 0xF800 ≤ a → a < 2 ^ 16 → length (w .upper) ≡ 4 → getD (wikiWrite w a v .upper) 3 0 ≡ v
+unfolding wikiWrite
+f800-written w a v l h e =
+    let at : (a - 0xE000) / 0x800 ≡ 3 = omega arith in
+    rw (le-ltb a 0x8000 (omega arith), le-ltb a 0xE000 (omega arith), at) (getD-set-same (w .upper) 3 v 0 (omega (arith, e)))
 
 -- ---- where what a slot selected is what it would select now: W10
 

@@ -1,5 +1,5 @@
 -- A 163 beside the wiki's machine: what every step keeps, registers, counter and sound at once. Assumes nothing.
-use Prim.Native.Nat.{ℕ, _-_, _/_, _%_, _≤_, _<_}
+use Prim.Native.Nat.{ℕ, _-_, _/_, _%_, _^_, _≤_, _<_}
 use mathlib.Core.Path.{_≡_, refl, sym, ap, _∙_}
 use mathlib.Core.Bool.{Bool, true, false, cond, not, _||_}
 use mathlib.Core.List.{List}
@@ -7,7 +7,7 @@ use mathlib.Core.Logic.{_⊎_, ⊎-elim}
 use native.Mathlib.Omega.{arith}
 use lib.Dec.{ltb}
 use lib.Ieee.{Float}
-use lib.ListN.{length, set}
+use lib.ListN.{length, getD, set}
 use lib.Seq.{getD-set-same, getD-set-other}
 use Rattle.sound.specs.declared.audio.Audio.{Audio}
 use Rattle.sound.specs.Audio.{withRam as withSoundRam}
@@ -33,6 +33,7 @@ use Rattle.thm_wiki.specs.Notes.{Noted, note, next, start, samePhases}
 use Rattle.thm_wiki.specs.Shown.{irqOf}
 use Rattle.thm_wiki.proofs.Ranges.{taken, Firm, by-firm}
 use Rattle.thm_wiki.proofs.Registers.{RegsBeside, regs-fresh, regs-below, regs-window, regs-upper, pages-set, pages-past}
+use Rattle.thm_wiki.proofs.Registers.{f800-kept, f800-written}
 use Rattle.thm_wiki.proofs.Counter.{cycle-agrees, low-agrees, high-agrees, irq-below, irq-low, irq-high, irq-above}
 use Rattle.thm_wiki.proofs.Port.{write-agrees, silent-agrees, port-agrees, written-else, sound-below, sound-data, sound-between}
 use Rattle.thm_wiki.proofs.Port.{sound-silent, sound-pages, sound-port, sound-past}
@@ -45,6 +46,8 @@ pub record Stands (x : Noted) (n : Namco163) : Type 0 where
   pub board : n .board ≡ Is163
   pub regs : RegsBeside (x .machine .regs) (x .notes .selects) (n .regs .«nt_select_lo») (n .regs .«nt_select_hi») (n .«nt_bank_enable»)
       (n .«chr_banks») (n .«prg_banks»)
+  -- W12: the protect byte is what F800 was written with last
+  pub protect : n .regs .«prg_ram_protect» ≡ getD (x .machine .regs .upper) 3 0
   pub irq : irqOf (n .regs) ≡ x .machine .irq
   pub sound : SoundBeside (x .machine .sound) (x .notes .phases) (x .notes .above) (x .notes .stray) (n .audio)
 
@@ -52,7 +55,7 @@ pub record Stands (x : Noted) (n : Namco163) : Type 0 where
 
 pub stands-fresh : (sub flags : ℕ) (known : Bool) → Stands start (chipAtLoad 19 sub flags known)
 unfolding chipAtLoad boardAtLoad
-stands-fresh sub flags known = record { board = refl; regs = regs-fresh; irq = refl; sound = sound-fresh }
+stands-fresh sub flags known = record { board = refl; regs = regs-fresh; protect = refl; irq = refl; sound = sound-fresh }
 
 -- ---- a write
 
@@ -70,7 +73,7 @@ e800-is : (n : Namco163) (v : ℕ) → n .board ≡ Is163 → writeE800 n v ≡ 
 unfolding writeE800
 e800-is n v e = rw e
 
-module _ (x : Noted) (n : Namco163) (a v : ℕ) (b : v < 256) (t : ChipTyped n) (r : ChipInRange n) (q : Stands x n) where
+module _ (x : Noted) (n : Namco163) (a v : ℕ) (top : a < 2 ^ 16) (b : v < 256) (t : ChipTyped n) (r : ChipInRange n) (q : Stands x n) where
   abbrev w : WikiSound
   w = x .machine .sound
 
@@ -128,12 +131,15 @@ module _ (x : Noted) (n : Namco163) (a v : ℕ) (b : v < 256) (t : ChipTyped n) 
       let prg = n .«prg_banks» in
       let below : (h : a < 0x8000) → RegsBeside (wikiWrite (m .regs) a v) _ lo hi flags chr prg =
       λ h. regs-below (m .regs) (z .selects) lo hi flags chr prg a v h (q .regs) in
+      let same : (h : a < 0xF800) → n .regs .«prg_ram_protect» ≡ getD (wikiWrite (m .regs) a v .upper) 3 0 =
+      λ h. q .protect ∙ sym (f800-kept (m .regs) a v h) in
       by-firm (Stands (next x (write a v))) n a v f
       (record {
         below = λ h.
             record {
               board = q .board;
               regs = below (omega arith);
+              protect = same (omega arith);
               irq = q .irq ∙ sym (irq-below (m .irq) a v (omega arith));
               sound = sound-still (soundWrite w a v) (sound-below w a v h);
             };
@@ -141,6 +147,7 @@ module _ (x : Noted) (n : Namco163) (a v : ℕ) (b : v < 256) (t : ChipTyped n) 
             record {
               board = q .board;
               regs = below (omega arith);
+              protect = same (omega arith);
               irq = q .irq ∙ sym (irq-below (m .irq) a v h);
               sound = sound-stored l h;
             };
@@ -148,6 +155,7 @@ module _ (x : Noted) (n : Namco163) (a v : ℕ) (b : v < 256) (t : ChipTyped n) 
             record {
               board = q .board;
               regs = below (omega arith);
+              protect = same (omega arith);
               irq =
                   low-agrees (n .regs) v (t .counter) b ∙ ap (λ (y : WikiIrq). wikiWriteLow y v) (q .irq)
                   ∙ sym (irq-low (m .irq) a v l h);
@@ -157,6 +165,7 @@ module _ (x : Noted) (n : Namco163) (a v : ℕ) (b : v < 256) (t : ChipTyped n) 
             record {
               board = q .board;
               regs = below (omega arith);
+              protect = same (omega arith);
               irq =
                   high-agrees (n .regs) v (t .counter) b ∙ ap (λ (y : WikiIrq). wikiWriteHigh y v) (q .irq)
                   ∙ sym (irq-high (m .irq) a v l h);
@@ -166,6 +175,7 @@ module _ (x : Noted) (n : Namco163) (a v : ℕ) (b : v < 256) (t : ChipTyped n) 
             record {
               board = q .board;
               regs = below h;
+              protect = same (omega arith);
               irq = q .irq ∙ sym (irq-above (m .irq) a v l);
               sound = sound-still (soundWrite w a v) (sound-between w a v (omega arith) (omega arith));
             };
@@ -180,6 +190,7 @@ module _ (x : Noted) (n : Namco163) (a v : ℕ) (b : v < 256) (t : ChipTyped n) 
                   (q .regs .low ∙ ap (wikiBit 6) (sym (getD-set-other (m .regs .upper) 0 1 v 0 (λ e. omega arith))))
                   (q .regs .high ∙ ap (wikiBit 7) (sym (getD-set-other (m .regs .upper) 0 1 v 0 (λ e. omega arith))))
                   (pages-set prg (m .regs .upper) 0 v (t .prg) (q .regs .upper) (omega arith) (q .regs .pages)) (q .regs);
+              protect = same (omega arith);
               irq = q .irq ∙ sym (irq-above (m .irq) a v (omega arith));
               sound = sound-off l h;
             });
@@ -193,6 +204,7 @@ module _ (x : Noted) (n : Namco163) (a v : ℕ) (b : v < 256) (t : ChipTyped n) 
                   (ap (wikiBit 6) (sym (getD-set-same (m .regs .upper) 1 v 0 (omega (arith, q .regs .upper)))))
                   (ap (wikiBit 7) (sym (getD-set-same (m .regs .upper) 1 v 0 (omega (arith, q .regs .upper)))))
                   (pages-set prg (m .regs .upper) 1 v (t .prg) (q .regs .upper) (omega arith) (q .regs .pages)) (q .regs);
+              protect = same (omega arith);
               irq = q .irq ∙ sym (irq-above (m .irq) a v (omega arith));
               sound = sound-still (soundWrite w a v) (sound-pages w a v l (omega arith));
             });
@@ -204,6 +216,7 @@ module _ (x : Noted) (n : Namco163) (a v : ℕ) (b : v < 256) (t : ChipTyped n) 
                   (q .regs .low ∙ ap (wikiBit 6) (sym (getD-set-other (m .regs .upper) 2 1 v 0 (λ e. omega arith))))
                   (q .regs .high ∙ ap (wikiBit 7) (sym (getD-set-other (m .regs .upper) 2 1 v 0 (λ e. omega arith))))
                   (pages-set prg (m .regs .upper) 2 v (t .prg) (q .regs .upper) (omega arith) (q .regs .pages)) (q .regs);
+              protect = same (omega arith);
               irq = q .irq ∙ sym (irq-above (m .irq) a v (omega arith));
               sound = sound-still (soundWrite w a v) (sound-pages w a v (omega arith) h);
             };
@@ -217,6 +230,7 @@ module _ (x : Noted) (n : Namco163) (a v : ℕ) (b : v < 256) (t : ChipTyped n) 
                   (q .regs .low ∙ ap (wikiBit 6) (sym (getD-set-other (m .regs .upper) i 1 v 0 (λ e. omega arith))))
                   (q .regs .high ∙ ap (wikiBit 7) (sym (getD-set-other (m .regs .upper) i 1 v 0 (λ e. omega arith))))
                   (pages-past prg (m .regs .upper) i v (omega arith) (q .regs .pages)) (q .regs);
+              protect = sym (f800-written (m .regs) a v l top (q .regs .upper));
               irq = q .irq ∙ sym (irq-above (m .irq) a v (omega arith));
               sound = sound-address l;
             });
@@ -227,6 +241,7 @@ module _ (x : Noted) (n : Namco163) (a v : ℕ) (b : v < 256) (t : ChipTyped n) 
           record {
             board = q .board;
             regs = regs-window (x .machine .regs) (x .notes .selects) n a v (q .board) l h (q .regs) (t .flags) (t .chr);
+            protect = q .protect ∙ sym (f800-kept (x .machine .regs) a v (omega arith));
             irq = q .irq ∙ sym (irq-above (x .machine .irq) a v (omega arith));
             sound = sound-still (soundWrite w a v) (sound-between w a v (omega arith) h);
           }
@@ -258,6 +273,7 @@ read-stands x n a r q = go (ltb a 0x4800) (ltb a 0x5000)
         record {
           board = q .board;
           regs = q .regs;
+          protect = q .protect;
           irq = q .irq;
           sound =
               rw (reads (n .audio) a)
@@ -273,6 +289,7 @@ cycle-stands x n t r q =
     (record {
       board = q .board;
       regs = rw (cycle-notes (x .machine) (x .notes) .selects) (q .regs);
+      protect = q .protect;
       irq = cycle-agrees (n .regs) (t .counter) ∙ ap wikiCycle (q .irq);
       sound = cycle-kept (x .machine) (x .notes) (n .audio) (t .audio) (r .audio) (q .sound);
     })
@@ -284,6 +301,7 @@ restore-stands x n bytes l q =
     record {
       board = q .board;
       regs = q .regs;
+      protect = q .protect;
       irq = q .irq;
       sound =
           ram-kept (x .machine .sound) (x .notes .phases) (x .notes .above) (x .notes .stray) (n .audio) (q .sound) bytes bytes l

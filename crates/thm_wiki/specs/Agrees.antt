@@ -1,5 +1,5 @@
 -- What agreement is: the board's answers, entries and sound beside the wiki's machine, with the departures as conditions on what is noted.
-use Prim.Native.Nat.{ℕ, _+_, _*_, _%_, _≤_, _<_}
+use Prim.Native.Nat.{ℕ, _+_, _*_, _/_, _%_, _≤_, _<_}
 use mathlib.Core.Path.{_≡_}
 use mathlib.Core.Bool.{Bool, true, false, cond}
 use mathlib.Core.List.{List}
@@ -19,7 +19,8 @@ use Rattle.call_cpu.specs.Calls.{cpuByte}
 use Rattle.call_refusals.specs.Refusals.{firstOf}
 use Rattle.call_run.specs.Clock.{stateClock}
 use Rattle.call_run.specs.Run.{runChecks, runGave}
-use Rattle.thm_wiki.specs.Registers.{WikiRegs, wikiBit, wikiShows, wikiShows210, wikiPrgPage, wikiRamEnabled, wikiMirroring}
+use Rattle.thm_wiki.specs.Registers.{WikiRegs, wikiBit, wikiShows, wikiShows210, wikiPrgPage, wikiUnprotected}
+use Rattle.thm_wiki.specs.Registers.{wikiRamEnabled, wikiMirroring}
 use Rattle.thm_wiki.specs.Counter.{WikiIrq, wikiRises, wikiRiseIn, wikiReadLow, wikiReadHigh}
 use Rattle.thm_wiki.specs.Sound.{WikiSound, wikiBase, wikiPhase}
 use Rattle.thm_wiki.specs.Port.{wikiByte}
@@ -34,9 +35,12 @@ pub record PrgAgrees (w : WikiRegs) (s : State) : Type 0 where
       → getD (s .memory .«prg_pages») (32 + 8 * k + i) unmapped ≡ prgEntry (s .memory) (pos (wikiPrgPage w k)) i
   pub last : (i : ℕ) → i < 8 → getD (s .memory .«prg_pages») (56 + i) unmapped ≡ prgEntry (s .memory) (negsuc 0) i
 
--- W1, W14: work RAM at 6000, with or without stores, or none of it
+-- W1, W12, W14: work RAM at 6000, each KiB with or without stores, or none of it
+abbrev pub RamBy : State → Bool → (ℕ → Bool) → Type 0
+RamBy s shown writable = (i : ℕ) → i < 8 → getD (s .memory .«prg_pages») (24 + i) unmapped ≡ ramEntry (s .memory) shown (writable i) i
+
 abbrev pub RamIs : State → Bool → Bool → Type 0
-RamIs s shown writable = (i : ℕ) → i < 8 → getD (s .memory .«prg_pages») (24 + i) unmapped ≡ ramEntry (s .memory) shown writable i
+RamIs s shown writable = RamBy s shown (λ i. writable)
 
 -- ---- the PPU's windows of a 163: W2, W8 to W10
 
@@ -93,8 +97,9 @@ PortAnswers w s = (arena : List ℕ) (a : ℕ) → 0x4800 ≤ a → a < 0x5000 �
 pub record Agrees163 (x : Noted) (s : State) : Type 0 where
   pub prg : PrgAgrees (x .machine .regs) s
   pub chr : ChrAgrees x s
-  -- departure from W12: work RAM takes stores whatever F800 says
-  pub ram : RamIs s true true
+  -- W12: each part of 2 KiB takes stores as F800 says, in the edition where it protects; departure from W12: in the other edition all takes
+  -- stores whatever F800 says
+  pub ram : RamBy s true (λ i. cond (s .«f800_protects») (wikiUnprotected (x .machine .regs) (i / 2)) true)
   pub counter : CounterAgrees (x .machine .irq) s
   pub sound : SoundAgrees (x .machine .sound) (x .notes .phases) (x .notes .above) (x .notes .stray) (s .chip .audio)
   pub port : PortAnswers (x .machine .sound) s

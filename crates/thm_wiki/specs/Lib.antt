@@ -8,4 +8,5 @@ pub mod Machine
 pub mod Notes
 pub mod Shown
 pub mod Lists
+pub mod Protection
 pub mod Agrees

@@ -1,5 +1,5 @@
 -- The wiki's machine beside a list of public calls: the steps that each accepted call comes to.
-use Prim.Native.Nat.{ℕ, zero, suc}
+use Prim.Native.Nat.{ℕ, zero, suc, _^_, _<_}
 use mathlib.Core.Path.{_≡_}
 use mathlib.Core.Bool.{Bool, false}
 use mathlib.Core.List.{List, [], _∷_}
@@ -70,7 +70,23 @@ resets syncBattery = false
 resets restoreBattery = false
 resets (writeImage buffer) = false
 
+-- C12: what the type of a CPU write's address says, whose last register the wiki has at F800..FFFF
+abbrev pub AddressTyped : Other → Type 0
+AddressTyped (cpuRead addr) = Unit {0}
+AddressTyped (cpuPeek addr) = Unit {0}
+AddressTyped (cpuWrite addr v) = addr < 2 ^ 16
+AddressTyped (chrRead addr) = Unit {0}
+AddressTyped (chrWrite addr v) = Unit {0}
+AddressTyped (fill src bytes) = Unit {0}
+AddressTyped (regionPeek src offset) = Unit {0}
+AddressTyped (regionWrite src offset v) = Unit {0}
+AddressTyped sram = Unit {0}
+AddressTyped (reset kind) = Unit {0}
+AddressTyped syncBattery = Unit {0}
+AddressTyped restoreBattery = Unit {0}
+AddressTyped (writeImage buffer) = Unit {0}
+
 -- C12: arguments of their types, and no reset
 abbrev pub Plain : Call Float Other → Type 0
 Plain (run n lent) = CallTyped (run n lent)
-Plain (other a) = CallTyped (other a) × (resets a ≡ false)
+Plain (other a) = (CallTyped (other a) × AddressTyped a) × (resets a ≡ false)

@@ -1,7 +1,7 @@
 -- What the board shows, in the wiki's terms: which page a slot selects, and the page entries that a page stands for in this cartridge.
-use Prim.Native.Nat.{ℕ, _+_, _*_, _%_, _<_}
+use Prim.Native.Nat.{ℕ, _+_, _*_, _/_, _%_, _<_}
 use mathlib.Core.Path.{_≡_}
-use mathlib.Core.Bool.{Bool, true, false, cond}
+use mathlib.Core.Bool.{Bool, true, false, cond, _&&_}
 use lib.Dec.{leb}
 use lib.IntN.{ℤ, pos, negsuc}
 use lib.ListN.{getD}
@@ -12,10 +12,12 @@ use Rattle.memory.specs.Memory.{regionIn}
 use Rattle.memory.specs.Page.{unmapped}
 use Rattle.memory_map.specs.Windows.{windowBase, regionPage, withFlag}
 use Rattle.memory_map.specs.Mirroring.{ciramBanks, nametablePage}
+use Rattle.board_chip.specs.declared.namco163.Board.{Board}
 use Rattle.board_chip.specs.declared.namco163.Namco163.{Namco163}
 use Rattle.board_chip.specs.declared.namco163.Regs.{Regs}
 use Rattle.board_chip.specs.Namco163.{is163}
 use Rattle.board_chip.specs.Detection.{prgRamReadable, prgRamWritable}
+use Rattle.board_protection.specs.Protection.{unprotected}
 use Rattle.thm_wiki.specs.Registers.{WikiPage, chrPage, nametable}
 use Rattle.thm_wiki.specs.Counter.{WikiIrq}
 
@@ -45,9 +47,13 @@ abbrev pub ramEntry : Memory → Bool → Bool → ℕ → Page
 ramEntry m shown writable i =
     cond shown (withFlag writable (regionPage (regionIn m PrgRam) (windowBase (regionIn m PrgRam .len) 8192 (pos 0) + 1024 * i))) unmapped
 
--- ---- the entries are those of the registers: L13
+-- whether it takes stores, v being the protect byte: where F800 protects a 163 by parts of 2 KiB (L20), and else by the board (L13)
+abbrev pub ramWritable : Bool → Board → ℕ → ℕ → Bool
+ramWritable protects b v i = cond (protects && is163 b) (unprotected v (i / 2)) (prgRamWritable b v)
 
-pub record Mapped (n : Namco163) (m : Memory) : Type 0 where
+-- ---- the entries are those of the registers, in either edition: L13, L20
+
+pub record Mapped (protects : Bool) (n : Namco163) (m : Memory) : Type 0 where
   -- the 1 KiB windows, twelve on a 163 and eight on another board
   pub chr : (k : ℕ) → k < cond (is163 (n .board)) 12 8 → getD (m .«chr_pages») k unmapped ≡ entryOf m (slotShows n k)
   -- the nametables again at 3000, on a 163
@@ -61,4 +67,4 @@ pub record Mapped (n : Namco163) (m : Memory) : Type 0 where
   pub last : (i : ℕ) → i < 8 → getD (m .«prg_pages») (56 + i) unmapped ≡ prgEntry m (negsuc 0) i
   pub ram : (i : ℕ) → i < 8
       → getD (m .«prg_pages») (24 + i) unmapped
-      ≡ ramEntry m (prgRamReadable (n .board)) (prgRamWritable (n .board) (n .regs .«prg_ram_protect»)) i
+      ≡ ramEntry m (prgRamReadable (n .board)) (ramWritable protects (n .board) (n .regs .«prg_ram_protect») i) i

@@ -29,10 +29,11 @@ use Rattle.memory_map.specs.Mirroring.{nametablePage, mirrorPages, setMirroring
 use Rattle.memory_map.specs.New.{unmappedMemory, newMemory}
 use Rattle.memory_map.specs.Windows.{regionPage, rustWithFlag, withFlag, showPages, mapPages, unmapPages, setWritable}
 use Rattle.memory_map.specs.Windows.{mapPrg, mapChr, unmapPrg, setPrgWritable}
-use Rattle.memory_map.proofs.Laws.Memory.{each-holds}
+use Rattle.memory_map.proofs.Laws.Memory.{each-holds, ranged-set-writable}
 use Rattle.board_chip.specs.declared.namco163.Namco163.{Namco163}
-use Rattle.board_banking.specs.Banking.{updateBanks}
-use Rattle.thm_steps.proofs.Banking.{Steps, ranged-steps, update-banks-keeps}
+use Rattle.board_protection.specs.Protection.{remapBanks}
+use Rattle.thm_steps.proofs.Banking.{Steps, ranged-steps}
+use Rattle.thm_steps.proofs.Protection.{remap-banks-keeps}
 use Rattle.thm_work_ram.specs.ZeroPage.{Apart, TablesApart}
 
 -- ---- entries
@@ -99,7 +100,7 @@ unfolding setPrgWritable setWritable
 writable-apart m addr s w q =
     record { prg = each-holds Apart 64 _ (λ i p h. flag-apart w p h) (addr / 1024) (s / 1024) _ (q .prg); chr = q .chr }
 
--- ---- update_banks, and the new memory
+-- ---- the mapping in either edition, and the new memory
 
 abbrev Both : Memory → Type 0
 Both m = Ranged m × TablesApart m
@@ -115,8 +116,10 @@ both-steps =
       noRam = λ m q. (ranged-steps .noRam m (q .0), unmap-apart m 0x6000 _ (q .1));
     }
 
-pub update-banks-apart : (n : Namco163) (m : Memory) → Ranged m → TablesApart m → TablesApart (updateBanks n m)
-update-banks-apart n m r q = update-banks-keeps Both both-steps n m (r, q) .1
+pub remap-banks-apart : (protects : Bool) (n : Namco163) (m : Memory) → Ranged m → TablesApart m → TablesApart (remapBanks protects n m)
+remap-banks-apart protects n m r q =
+    remap-banks-keeps Both both-steps
+    (λ m addr w lo hi q. (ranged-set-writable m (q .0) addr 2048 w, writable-apart m addr 2048 w (q .1))) protects n m (r, q) .1
 
 pub new-apart : (s : MemoryLayout) → withinLimits s ≡ true → TablesApart (newMemory s)
 unfolding newMemory unmappedMemory

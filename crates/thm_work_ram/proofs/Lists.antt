@@ -31,8 +31,8 @@ use Rattle.board_chip.specs.declared.namco163.Namco163.{Namco163}
 use Rattle.board_chip.specs.Load.{chipAtLoad}
 use Rattle.board_chip.specs.declared.reads.Served.the-variants.{Nothing}
 use Rattle.board_chip.specs.Reads.{served}
-use Rattle.board_registers.specs.Writes.{writeChip, remaps}
-use Rattle.board_banking.specs.Banking.{updateBanks}
+use Rattle.board_registers.specs.Writes.{writeChip}
+use Rattle.board_protection.specs.Protection.{remapBanks, remapsIn}
 use Rattle.board_state.specs.declared.State.{State}
 use Rattle.board_state.specs.State.{Known}
 use Rattle.call_refusals.specs.Refusals.{firstOf}
@@ -47,12 +47,12 @@ use Rattle.thm_machine.specs.Board.{otherGives, runGives, board}
 use Rattle.thm_machine.specs.Start.{Loaded, loaded, zeroed}
 use Rattle.thm_machine.proofs.Keeps.{keeps-other}
 use Rattle.thm_machine.proofs.Start.{load-starts}
-use Rattle.thm_steps.proofs.Banking.{update-banks-kept}
+use Rattle.thm_steps.proofs.Protection.{remap-banks-kept}
 use Rattle.thm_range.specs.Fit.{Fit}
 use Rattle.thm_range.proofs.Calls.{cpu-accepted, by-answer, other-fits, run-fits, run-memory, zeroed-fits, ranged-load, memory-load, layout-load}
 use Rattle.thm_work_ram.specs.ZeroPage.{ZeroPage, Apart, TablesApart, NoWorkRam}
-use Rattle.thm_work_ram.proofs.Mapping.{no-ram}
-use Rattle.thm_work_ram.proofs.Entries.{behind, update-banks-apart, new-apart}
+use Rattle.thm_work_ram.proofs.Mapping.{no-ram-either}
+use Rattle.thm_work_ram.proofs.Entries.{behind, remap-banks-apart, new-apart}
 
 -- ---- what every call keeps
 
@@ -69,21 +69,22 @@ record Untouched (l : Layout) (h : Held) : Type 0 where
 
 -- ---- memory
 
-mapped-windows : (l : Layout) (n : Namco163) (m : Memory) → Ranged m → MemoryTyped m → m .layout ≡ l → TablesApart m
-    → Windows l (updateBanks n m)
-mapped-windows l n m r t e q =
+mapped-windows : (l : Layout) (protects : Bool) (n : Namco163) (m : Memory) → Ranged m → MemoryTyped m → m .layout ≡ l → TablesApart m
+    → Windows l (remapBanks protects n m)
+mapped-windows l protects n m r t e q =
     record {
-      layout = update-banks-kept n m .layout ∙ e;
-      apart = update-banks-apart n m r q;
-      bare = λ pages. no-ram n m t (ap (λ (x : Layout). x .«prg_ram») e ∙ pages);
+      layout = remap-banks-kept protects n m .layout ∙ e;
+      apart = remap-banks-apart protects n m r q;
+      bare = λ pages. no-ram-either protects n m t (ap (λ (x : Layout). x .«prg_ram») e ∙ pages);
     }
 
 register-windows : (l : Layout) (s : State) (addr v : ℕ) → Known s → Windows l (s .memory) → Windows l (writeRegister s addr v .memory)
 unfolding writeRegister
 register-windows l s addr v k w =
     let n = writeChip (s .chip) addr v in
-    cond-holds (Windows l) (remaps (s .chip .board) (n .board) addr) _ _
-    (mapped-windows l n (s .memory) (k .range .memory .ranged) (k .typed .memory) (w .layout) (w .apart)) w
+    let protects = s .«f800_protects» in
+    cond-holds (Windows l) (remapsIn protects (s .chip .board) (n .board) addr) _ _
+    (mapped-windows l protects n (s .memory) (k .range .memory .ranged) (k .typed .memory) (w .layout) (w .apart)) w
 
 -- ---- arena
 
@@ -211,7 +212,7 @@ load-windows : (l : Loaded) → Windows (layoutOf (l .sizes)) (zeroed l .state .
 unfolding freshState
 load-windows l =
     let g = load-good (l .mapper) (l .sizes) (length (l .arena)) (l .accepted) in
-    mapped-windows (layoutOf (l .sizes)) (chipAtLoad (l .mapper) (l .submapper) (l .flags) (l .known)) _
+    mapped-windows (layoutOf (l .sizes)) (l .options .«f800_protects») (chipAtLoad (l .mapper) (l .submapper) (l .flags) (l .known)) _
     (ranged-load (l .mapper) (l .sizes) (g .fits)) (memory-load (l .mapper) (l .sizes)) (layout-load (l .mapper) (l .sizes))
     (load-apart (l .mapper) (l .sizes) (g .fits))
 

@@ -1,8 +1,8 @@
 -- M15: with PRG-RAM of a page or more `update_banks` is the Rust's; without PRG-RAM the window at 6000 is unmapped after it, on every
--- board. The one hypothesis besides is that the CPU's table has 64 entries, as its type says.
-use Prim.Native.Nat.{ℕ, zero, suc, _+_, _*_, _%_, _≤_, _<_}
+-- board and in either edition. The one hypothesis besides is that the CPU's table has 64 entries, as its type says.
+use Prim.Native.Nat.{ℕ, zero, suc, _+_, _*_, _/_, _%_, _≤_, _<_}
 use mathlib.Core.Path.{_≡_, refl, ap, _∙_}
-use mathlib.Core.Bool.{Bool, true}
+use mathlib.Core.Bool.{Bool, true, _&&_}
 use mathlib.Core.List.{List}
 use native.Mathlib.Nat.{mod-eq-of-lt}
 use native.Mathlib.Omega.{arith}
@@ -22,9 +22,12 @@ use Rattle.memory_map.specs.Windows.{mapPrg, unmapPrg, setPrgWritable, rustSetP
 use Rattle.memory_map.proofs.Laws.Windows.{length-each}
 use Rattle.memory_map.proofs.Laws.Memory.{each-other, each-same}
 use Rattle.board_chip.specs.declared.namco163.Namco163.{Namco163}
+use Rattle.board_chip.specs.Namco163.{is163}
 use Rattle.board_chip.specs.Detection.{prgRamReadable, prgRamWritable}
 use Rattle.board_banking.specs.Banking.{mapChrTable, mapRom, mapWorkRam, updateBanks}
-use Rattle.thm_steps.proofs.Banking.{Kept, kept-self, kept-steps, before-work-ram}
+use Rattle.board_protection.specs.Protection.{unprotected, remapBanks}
+use Rattle.board_protection.proofs.Laws.{part-flag}
+use Rattle.thm_steps.proofs.Banking.{Kept, kept-self, kept-steps, before-work-ram, update-banks-kept}
 use Rattle.thm_work_ram.specs.Rust.{rustMapWorkRam, rustUpdateBanks}
 use Rattle.thm_work_ram.specs.ZeroPage.{NoWorkRam}
 
@@ -101,3 +104,14 @@ ram-as-rust n m typed some =
 pub no-ram : (n : Namco163) (m : Memory) → MemoryTyped m → m .layout .«prg_ram» ≡ 0 → NoWorkRam (updateBanks n m)
 unfolding updateBanks
 no-ram n m typed none = let k = before n m in no-work-ram n _ (k .typed typed .prg) (rw (k .layout) none)
+
+-- L20: a part's flag leaves an unmapped entry
+pub no-ram-either : (protects : Bool) (n : Namco163) (m : Memory) → MemoryTyped m → m .layout .«prg_ram» ≡ 0
+    → NoWorkRam (remapBanks protects n m)
+unfolding remapBanks
+no-ram-either protects n m typed none =
+    let v = n .regs .«prg_ram_protect» in
+    let bare = no-ram n m typed none in
+    let long = update-banks-kept n m .typed typed .prg in
+    cond-holds NoWorkRam (protects && is163 (n .board)) _ _
+    (λ i h. part-flag v (updateBanks n m) long i h ∙ ap (withFlag (unprotected v (i / 2))) (bare i h)) bare

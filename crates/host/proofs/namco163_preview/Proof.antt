@@ -1,5 +1,5 @@
 -- `namco163_preview` meets its contract: refused by the image, or on with its state.
-use mathlib.Core.Path.{_∙_}
+use mathlib.Core.Path.{refl, _∙_}
 use mathlib.Core.List.{[]}
 use borrow.Author.Needs.{needs}
 use lib.ListN.{length}
@@ -17,7 +17,7 @@ start c = c .before .before .before
 
 call : (c : tie.After-read-image) → let a = start c .args in
     OnImage (a .image .now) (a .arena .now) (λ s. cpuOwn s (a .arena .now) (a .addr))
-    (λ s. writeGives s (a .arena .now) (a .addr) (a .val)) (c .read-image .result)
+    (λ s. writeGives (length (a .image .now)) s (a .arena .now) (a .addr) (a .val)) (c .read-image .result)
 call c = on-image _ _ _ _ _ (c .read-image .ensures)
 
 returns : tie.Need-returns
@@ -34,7 +34,7 @@ returns-2 c =
     let r = accepted .before .before in let a = start r .args in let s = r .read-image .result .state in
     c .preview-on .ensures
     ∙ same-word (cpuChecks s (length (a .arena .now)) (a .addr)) [] (a .image .now) (a .arena .now)
-    (writeGives s (a .arena .now) (a .addr) (a .val))
+    (writeGives 0 s (a .arena .now) (a .addr) (a .val)) (writeGives (length (a .image .now)) s (a .arena .now) (a .addr) (a .val)) refl
     ∙ word-of (call r .goes-on (accepted .if1 .left))
 
 pub namco163-preview-spec : {M : Type 1} → statement M

@@ -1,6 +1,7 @@
 -- `namco163_read` meets its contract: refused by the image, or on with its state.
 use native.Mathlib.Omega.{arith}
 use borrow.Author.Needs.{needs}
+use lib.ListN.{length}
 use Rattle.host_state.specs.HostState.{readGives}
 use Rattle.host.specs.Host.{cpuOwn, hostRead}
 use Rattle.host_state.proofs.Laws.{word-of, image-of, two-of}
@@ -14,7 +15,7 @@ start c = c .before .before .before .before
 
 call : (c : tie.After-read-image) → let a = start c .args in
     OnImage (a .image .now) (a .arena .now) (λ s. cpuOwn s (a .arena .now) (a .addr))
-    (λ s. readGives s (a .arena .now) (a .addr)) (c .read-image .result)
+    (λ s. readGives (length (a .image .now)) s (a .arena .now) (a .addr)) (c .read-image .result)
 call c = on-image _ _ _ _ _ (c .read-image .ensures)
 
 returns : tie.Need-returns

@@ -1,6 +1,7 @@
 -- `namco163_reset` meets its contract: refused by the image, or on with its state.
 use mathlib.Core.List.{[], _∷_}
 use borrow.Author.Needs.{needs}
+use lib.ListN.{length}
 use Rattle.call_refusals.specs.Refusals.{kindCheck}
 use Rattle.host_state.specs.HostState.{resetGives}
 use Rattle.host.specs.Host.{hostReset}
@@ -14,7 +15,8 @@ abbrev start : tie.After-read-image → tie.Start
 start c = c .before .before .before
 
 call : (c : tie.After-read-image) → let a = start c .args in
-    OnImage (a .image .now) [] (λ s. kindCheck (a .kind) ∷ []) (λ s. resetGives s (a .kind)) (c .read-image .result)
+    OnImage (a .image .now) [] (λ s. kindCheck (a .kind) ∷ []) (λ s. resetGives (length (a .image .now)) s (a .kind))
+    (c .read-image .result)
 call c = on-image _ _ _ _ _ (c .read-image .ensures)
 
 returns : tie.Need-returns

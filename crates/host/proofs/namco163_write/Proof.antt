@@ -1,5 +1,6 @@
 -- `namco163_write` meets its contract: refused by the image, or on with its state.
 use borrow.Author.Needs.{needs}
+use lib.ListN.{length}
 use Rattle.host_state.specs.HostState.{writeGives}
 use Rattle.host.specs.Host.{cpuOwn, hostWrite}
 use Rattle.host_state.proofs.Laws.{word-of, image-of, lent-of, three-of}
@@ -13,7 +14,7 @@ start c = c .before .before .before .before
 
 call : (c : tie.After-read-image) → let a = start c .args in
     OnImage (a .image .now) (a .arena .now) (λ s. cpuOwn s (a .arena .now) (a .addr))
-    (λ s. writeGives s (a .arena .now) (a .addr) (a .val)) (c .read-image .result)
+    (λ s. writeGives (length (a .image .now)) s (a .arena .now) (a .addr) (a .val)) (c .read-image .result)
 call c = on-image _ _ _ _ _ (c .read-image .ensures)
 
 returns : tie.Need-returns

@@ -2,10 +2,11 @@
 use mathlib.Core.Path.{ap, _∙_}
 use native.Mathlib.Omega.{arith}
 use borrow.Author.Needs.{needs}
+use lib.ListN.{length}
 use Rattle.board_state.proofs.Range.{known-passes}
 use Rattle.call_cpu.specs.declared.calls.Written.{Written}
 use Rattle.thm_range.proofs.Calls.{cpu-write-mask}
-use Rattle.host_state.proofs.Laws.{word-of, image-of, lent-of, known-write}
+use Rattle.host_state.proofs.Laws.{word-of, image-of, lent-of, known-write, room-write}
 use Rattle.host_blocks.proofs.Laws.{own-write, own-none, arena-kept, blocks-called, left}
 use Rattle.host_blocks.proofs.write_blocks_on.Statement.{statement}
 use Rattle.host_blocks.proofs.write_blocks_on.Tie as tie
@@ -21,7 +22,7 @@ start c = lent c .before .before
 abbrev write : tie.Else1 → tie.After-cpu-write-known
 write c = c .before .before .before .before .before .before
 
-abbrev accepted : tie.After-put-state → tie.Else1
+abbrev accepted : tie.After-put-image → tie.Else1
 accepted c = c .before .before .before
 
 cpu-write-known-requires : tie.Need-cpu-write-known-requires
@@ -40,11 +41,12 @@ returns c =
     let kept = arena-kept (a .d .now) (a .s) (a .image .now) (a .arena .now) (a .addr) (a .val) _ (r .0) h in
     (word-of e, (image-of e, (r .1 .0 ∙ kept ∙ lent-of e, r .1 .1)))
 
-put-state-requires : tie.Need-put-state-requires
-put-state-requires c κs =
+put-image-requires : tie.Need-put-image-requires
+put-image-requires c κs =
     let done = c .before .before in let w = write done in let l = lent w in let t = start w in let a = t .args in
     let r = w .cpu-write-known .ensures .0 in let z = done .if1 .left in (
-      t .pre .0,
+      room-write (a .s) (a .arena .now) (a .addr) (a .val) _ (length (a .image .now))
+          (own-write (a .d .now) (a .s) (a .image .now) (a .arena .now) (a .addr) (a .val) _ r z) (t .pre .0),
       known-write (a .s) (a .arena .now) (a .addr) (a .val) _
           (own-write (a .d .now) (a .s) (a .image .now) (a .arena .now) (a .addr) (a .val) _ r z) (search needs)
           (λ i. omega (arith, l .slice-known2 .given i))
@@ -72,7 +74,7 @@ returns-2 c =
     let done = accepted put in let w = write done in let a = start w .args in
     let r = w .cpu-write-known .ensures in
     let e = left (a .d .now) (a .s) (a .image .now) (a .arena .now) (a .addr) (a .val) _ (r .0) (done .if1 .left) in
-    (word-of e, (put .put-state .ensures ∙ image-of e, (r .1 .0 ∙ lent-of e, r .1 .1)))
+    (word-of e, (put .put-image .ensures ∙ image-of e, (r .1 .0 ∙ lent-of e, r .1 .1)))
 
 pub write-blocks-on-spec : {M : Type 1} → statement M
 write-blocks-on-spec =
@@ -83,7 +85,7 @@ write-blocks-on-spec =
     (λ c. search needs)  -- same-length
     (λ c. search needs)  -- same-length-2
     returns
-    put-state-requires
+    put-image-requires
     (λ c. search needs)  -- cast-result-2
     (λ c. search needs)  -- mul-result
     add-result

@@ -2,8 +2,9 @@
 use mathlib.Core.Path.{ap, _∙_}
 use borrow.Author.Needs.{needs}
 use Rattle.board_state.proofs.Range.{known-passes}
-use Rattle.image_write.specs.Image.{imageOf}
-use Rattle.host_state.proofs.Laws.{ReadCalled, read-called, word-of, image-of, known-read, still-read}
+use lib.ListN.{length}
+use Rattle.image_write.specs.Options.{imageAt}
+use Rattle.host_state.proofs.Laws.{ReadCalled, read-called, word-of, image-of, known-read, room-read, still-read}
 use Rattle.host_state.proofs.read_on.Statement.{statement}
 use Rattle.host_state.proofs.read_on.Tie as tie
 
@@ -29,18 +30,20 @@ returns-2 c =
     let z = accepted .if1 .left in
     let e = call r .accepted z in
     let still = still-read (a .s) (a .arena .now) (a .addr) _ (r .cpu-read-known .ensures) (c .if2 .taken) (call r .none z) in
-    (word-of e, t .pre .1 ∙ ap imageOf still ∙ image-of e)
+    (word-of e, t .pre .1 ∙ ap (imageAt (length (a .image .now))) still ∙ image-of e)
 
-put-state-requires : tie.Need-put-state-requires
-put-state-requires c κs =
+put-image-requires : tie.Need-put-image-requires
+put-image-requires c κs =
     let port = c .before .before in let accepted = port .before .before in let r = accepted .before .before in
-    let t = start r in let a = t .args in
-    (t .pre .0, known-read (a .s) (a .arena .now) (a .addr) _ (r .cpu-read-known .ensures) (t .pre .2))
+    let t = start r in let a = t .args in (
+      room-read (a .s) (a .arena .now) (a .addr) _ (length (a .image .now)) (r .cpu-read-known .ensures) (t .pre .0),
+      known-read (a .s) (a .arena .now) (a .addr) _ (r .cpu-read-known .ensures) (t .pre .2),
+    )
 
 returns-3 : tie.Need-returns-3
 returns-3 c =
     let put = c .before .before in let port = put .before .before .before in let accepted = port .before .before in
-    let e = call (accepted .before .before) .accepted (accepted .if1 .left) in (word-of e, put .put-state .ensures ∙ image-of e)
+    let e = call (accepted .before .before) .accepted (accepted .if1 .left) in (word-of e, put .put-image .ensures ∙ image-of e)
 
 pub read-on-spec : {M : Type 1} → statement M
 read-on-spec =
@@ -52,6 +55,6 @@ read-on-spec =
     (λ c. search needs)  -- cast-word
     (λ c. search needs)  -- mul-word
     returns-2
-    put-state-requires
+    put-image-requires
     (λ c. search needs)  -- same-length
     returns-3)

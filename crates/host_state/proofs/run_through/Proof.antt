@@ -1,6 +1,7 @@
 -- `run_through` meets its contract: refused, and accepted.
 use Prim.Native.Nat.{ℕ, _+_, _*_, _<_}
-use mathlib.Core.Path.{refl, sym, ap, subst, _∙_}
+use mathlib.Core.Bool.{true}
+use mathlib.Core.Path.{_≡_, refl, sym, ap, subst, _∙_}
 use mathlib.Core.List.{List, _∷_, _++_}
 use native.Mathlib.Omega.{arith}
 use lib.Ieee.{Float, nan}
@@ -10,14 +11,14 @@ use borrow.Author.Needs.{needs}
 use Rattle.bits.specs.Fields.{each}
 use Rattle.board_state.specs.State.{Known}
 use Rattle.call_refusals.specs.Refusals.{stateCheck}
-use Rattle.image_write.specs.Image.{imageOf}
+use Rattle.image_write.specs.Options.{imageAt, optionSet, roomFor}
 use Rattle.call_run.specs.declared.run.Ran.{Ran}
 use Rattle.call_run.specs.Run.{clocks}
 use Rattle.thm_range.proofs.Calls.{clocks-known}
 use Rattle.host_samples.specs.Samples.{sampleBytes}
 use Rattle.host_samples.proofs.Laws.{run-number, Ended, ended, samples-numbers}
 use Rattle.host_state.specs.HostState.{runOwn, runGives}
-use Rattle.host_state.proofs.Laws.{Called, called, word-of, image-of, lent-of}
+use Rattle.host_state.proofs.Laws.{Called, called, word-of, image-of, lent-of, room-clocks}
 use Rattle.host_state.proofs.run_through.Statement.{statement}
 use Rattle.host_state.proofs.run_through.Tie as tie
 
@@ -31,12 +32,12 @@ run c = c .before .before .before .before
 abbrev accepted : tie.After-put-samples → tie.Else1
 accepted c = c .before .before .before
 
-abbrev samples : tie.After-put-state → tie.After-put-samples
+abbrev samples : tie.After-put-image → tie.After-put-samples
 samples c = c .before .before .before .before .before
 
 call : (c : tie.After-run-into) → let a = start c .args in let bytes = a .samples .now in
-    Called (stateCheck (a .s) ∷ runOwn (a .s) bytes (a .n)) (a .image .now) bytes (runGives (a .s) bytes (a .n))
-    (runGives (a .s) bytes (a .n)) (c .run-into .result .refusal)
+    Called (stateCheck (a .s) ∷ runOwn (a .s) bytes (a .n)) (a .image .now) bytes (runGives (length (a .image .now)) (a .s) bytes (a .n))
+    (runGives (length (a .image .now)) (a .s) bytes (a .n)) (c .run-into .result .refusal)
 call c =
     let a = start c .args in
     called (stateCheck (a .s) ∷ runOwn (a .s) (a .samples .now) (a .n)) _ _ _ _ _
@@ -65,11 +66,13 @@ put-samples-requires c κs =
           (samples-numbers (a .s) (a .n) (t .pre .1) j (subst (λ (x : ℕ). j < x) (ap (λ (x : Ran). x .made) (d .is)) h)),
     )
 
-put-state-requires : tie.Need-put-state-requires
-put-state-requires c κs =
+put-image-requires : tie.Need-put-image-requires
+put-image-requires c κs =
     let lent = c .before .before .before .before in
     let done = accepted lent in let t = start (run done) in
-    (t .pre .0, subst (λ (x : Ran). Known (x .state)) (sym (end done .is)) (clocks-known (t .args .n) (t .args .s) (t .pre .1)))
+    let a = t .args in
+    subst (λ (x : Ran). (roomFor (optionSet (x .state)) (length (a .image .now)) ≡ true) × Known (x .state)) (sym (end done .is))
+    (room-clocks (a .s) (a .n) (length (a .image .now)) (t .pre .0), clocks-known (a .n) (a .s) (t .pre .1))
 
 mul-result : tie.Need-mul-result
 mul-result c = omega (arith, end (accepted (samples (c .before .before))) .buffer)
@@ -86,7 +89,7 @@ returns-2 c =
     let e = call (run done) .accepted (done .if1 .left) in (
       ap (λ (x : Ran). x .made * 256 + x .rise * 4294967296) (d .is) ∙ word-of e,
       (
-        put .put-state .ensures ∙ ap (λ (x : Ran). imageOf (x .state)) (d .is) ∙ image-of e,
+        put .put-image .ensures ∙ ap (λ (x : Ran). imageAt (length (a .image .now)) (x .state)) (d .is) ∙ image-of e,
         lent .put-samples .ensures
             ∙ ap (λ (x : List Float). each sampleBytes x ++ drop (4 * run done .run-into .result .made) bytes) (d .first)
             ∙ ap (λ (x : Ran). each sampleBytes w ++ drop (4 * x .made) bytes) (d .is)
@@ -103,7 +106,7 @@ run-through-spec =
     (λ c. search needs)  -- same-length
     returns
     put-samples-requires
-    put-state-requires
+    put-image-requires
     mul-result
     (λ c. search needs)  -- cast-result-2
     (λ c. search needs)  -- mul-result-2

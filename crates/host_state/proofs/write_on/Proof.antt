@@ -2,10 +2,11 @@
 use mathlib.Core.Path.{ap, _∙_}
 use native.Mathlib.Omega.{arith}
 use borrow.Author.Needs.{needs}
+use lib.ListN.{length}
 use Rattle.board_state.proofs.Range.{known-passes}
 use Rattle.call_cpu.specs.declared.calls.Written.{Written}
 use Rattle.thm_range.proofs.Calls.{cpu-write-mask}
-use Rattle.host_state.proofs.Laws.{WriteCalled, write-called, write-kept, word-of, image-of, lent-of, known-write}
+use Rattle.host_state.proofs.Laws.{WriteCalled, write-called, write-kept, word-of, image-of, lent-of, known-write, room-write}
 use Rattle.host_state.proofs.write_on.Statement.{statement}
 use Rattle.host_state.proofs.write_on.Tie as tie
 
@@ -17,7 +18,7 @@ lent c = c .before .before .before
 abbrev write : tie.Else1 → tie.After-cpu-write-known
 write c = c .before .before .before .before
 
-abbrev accepted : tie.After-put-state → tie.Else1
+abbrev accepted : tie.After-put-image → tie.Else1
 accepted c = c .before .before .before
 
 cpu-write-known-requires : tie.Need-cpu-write-known-requires
@@ -39,10 +40,10 @@ returns c =
     let kept = write-kept (a .s) (a .arena .now) (a .addr) (a .val) (call w .some h) in
     (word-of e, (image-of e, w .cpu-write-known .ensures .1 ∙ kept ∙ lent-of e))
 
-put-state-requires : tie.Need-put-state-requires
-put-state-requires c κs =
+put-image-requires : tie.Need-put-image-requires
+put-image-requires c κs =
     let done = c .before .before in let w = write done in let l = lent w in let t = l .before in let a = t .args in (
-      t .pre .0,
+      room-write (a .s) (a .arena .now) (a .addr) (a .val) _ (length (a .image .now)) (w .cpu-write-known .ensures .0) (t .pre .0),
       known-write (a .s) (a .arena .now) (a .addr) (a .val) _ (w .cpu-write-known .ensures .0) (search needs)
           (λ i. omega (arith, l .slice-known .given i)) (call w .none (done .if1 .left)) (t .pre .1),
     )
@@ -59,7 +60,7 @@ returns-2 c =
     let put = c .before .before .before .before in
     let done = accepted put in let w = write done in
     let e = call w .accepted (done .if1 .left) in
-    (word-of e, (put .put-state .ensures ∙ image-of e, w .cpu-write-known .ensures .1 ∙ lent-of e))
+    (word-of e, (put .put-image .ensures ∙ image-of e, w .cpu-write-known .ensures .1 ∙ lent-of e))
 
 pub write-on-spec : {M : Type 1} → statement M
 write-on-spec =
@@ -69,7 +70,7 @@ write-on-spec =
     (λ c. search needs)  -- cast-result
     (λ c. search needs)  -- same-length
     returns
-    put-state-requires
+    put-image-requires
     (λ c. search needs)  -- cast-result-2
     (λ c. search needs)  -- mul-result
     add-result

@@ -1,11 +1,13 @@
--- L13: `update_banks` shows what the registers select, entry by entry of its two tables. Assumes nothing.
-use Prim.Native.Nat.{ℕ, zero, suc, _+_, _*_, _/_, _%_, _≤_, _<_}
-use mathlib.Core.Path.{_≡_, refl, ap, _∙_}
+-- L13, L20: `update_banks` and the flags of protected work RAM show what the registers select, entry by entry of the two tables. Assumes
+-- nothing.
+use Prim.Native.Nat.{ℕ, zero, suc, _+_, _*_, _/_, _%_, _^_, _≤_, _<_}
+use mathlib.Core.Path.{_≡_, refl, sym, ap, _∙_}
 use mathlib.Core.Bool.{Bool, true, false, cond}
 use mathlib.Core.List.{List}
 use native.Mathlib.Decide.{ℕ-discrete}
+use native.Mathlib.Nat.{mod-lt}
 use native.Mathlib.Omega.{arith}
-use borrow.Author.Tests.{le-ltb}
+use borrow.Author.Tests.{eq-eqb, ne-eqb, le-ltb}
 use lib.Dec.{ltb}
 use lib.IntN.{pos, negsuc}
 use lib.ListN.{length, length-set, getD, set}
@@ -16,20 +18,28 @@ use Rattle.memory.specs.declared.page.Page.{Page}
 use Rattle.memory.specs.declared.layout.Region.{Region}
 use Rattle.memory.specs.declared.layout.Src.the-variants.{PrgRam, CiRam}
 use Rattle.memory.specs.Memory.{regionIn, withPrgPages, withChrPages}
-use Rattle.memory.specs.Page.{unmapped}
+use Rattle.memory.specs.Page.{unmapped, offsetOf}
+use Rattle.memory.specs.Range.{MemoryTyped}
+use Rattle.memory.proofs.Laws.Page.{offset-page}
 use Rattle.memory_map.specs.Mirroring.{ciramBanks, nametablePage, mirrorPages, setMirroring}
 use Rattle.memory_map.specs.Windows.{windowBase, regionPage, withFlag, eachPage, showPages, mapPages, unmapPages, setWritable}
 use Rattle.memory_map.specs.Windows.{mapPrg, unmapPrg, setPrgWritable}
 use Rattle.memory_map.proofs.Laws.Windows.{length-each}
 use Rattle.memory_map.proofs.Laws.Memory.{each-other, each-same}
+use Rattle.board_chip.specs.declared.namco163.Board.{Board}
+use Rattle.board_chip.specs.declared.namco163.Board.the-variants.{Unknown, Namco163 as Is163, Namco175, Namco340}
 use Rattle.board_chip.specs.declared.namco163.Namco163.{Namco163}
 use Rattle.board_chip.specs.Namco163.{is163}
 use Rattle.board_chip.specs.Detection.{prgRamReadable, prgRamWritable}
 use Rattle.board_banking.specs.Banking.{slotSrc, slotPages, mapSlot, mapSlots, mapChrTable, mapRom, mapWorkRam, updateBanks}
 use Rattle.board_banking.proofs.Slots.{slot-alone}
+use Rattle.board_protection.specs.Protection.{unprotected, protectParts, remapBanks}
+use Rattle.board_protection.proofs.Laws.{old-tables, other-tables, new-tables, part-flag, part-else}
+use Rattle.thm_steps.proofs.Banking.{update-banks-kept}
 use Rattle.thm_wiki.specs.Registers.{WikiPage, chrPage, nametable}
 use Rattle.thm_wiki.specs.Shown.{slotShows, entryOf, prgEntry, ramEntry, Mapped}
 use Rattle.thm_wiki.proofs.Ranges.{taken, left}
+use Rattle.thm_wiki.proofs.Tests.{never}
 
 -- a test inside a function of what it chooses
 chosen : {A B : Type 0} (f : A → B) (t : Bool) (x y : A) → cond t (f x) (f y) ≡ f (cond t x y)
@@ -235,7 +245,7 @@ work-here m true writable l i h b =
     ∙ ap (withFlag writable) (each-same 64 (λ i old. ramPage m i) 24 8 l i (omega arith) h b)
 work-here m false writable l i h b = each-same 64 (λ i old. unmapped) 24 8 l i (omega arith) h b
 
--- ---- both
+-- ---- both: `update_banks`
 
 update-is : (n : Namco163) (m : Memory) → updateBanks n m ≡ withPrgPages (withChrPages m (chrTable n m)) (prgTable n m)
 unfolding updateBanks
@@ -246,7 +256,7 @@ entry-same : (m : Memory) (c p : List Page) (w : WikiPage) → entryOf m w ≡ e
 entry-same m c p (chrPage b) = refl
 entry-same m c p (nametable b) = refl
 
-pub update-maps : (n : Namco163) (m : Memory) → length (m .«prg_pages») ≡ 64 → length (m .«chr_pages») ≡ 16 → Mapped n (updateBanks n m)
+update-maps : (n : Namco163) (m : Memory) → length (m .«prg_pages») ≡ 64 → length (m .«chr_pages») ≡ 16 → Mapped false n (updateBanks n m)
 update-maps n m p c =
     let is = is163 (n .board) in
     let shown = prgRamReadable (n .board) in
@@ -271,3 +281,62 @@ update-maps n m p c =
           ∙ each-same 64 (λ i old. prgEntry m (negsuc 0) i) 56 8 (bankTable n m) i (omega arith) (banks-long n m ∙ p) h;
       ram = λ i h. work-here m shown writable (romTable n m) i (length-each 64 _ 56 8 (bankTable n m) ∙ banks-long n m ∙ p) h;
     })
+
+-- ---- and the flags of a 163 that F800 protects: L20
+
+-- a flag over the one that `update_banks` gives a 163
+flag-again : (u : Bool) (p : Page) → withFlag u (withFlag true p) ≡ withFlag u p
+flag-again u p = by (ℕ-discrete (p .0) 0)
+  where
+    by : Dec (p .0 ≡ 0) → withFlag u (withFlag true p) ≡ withFlag u p
+    by (yes e) = rw (eq-eqb (p .0) 0 e, eq-eqb (p .0) 0 e)
+    by (no ne) =
+        rw (
+          ne-eqb (p .0) 0 ne,
+          ne-eqb (2 ^ 31 + offsetOf p % 2 ^ 30) 0 (λ e. absurd (omega arith)),
+          offset-page (offsetOf p) true (mod-lt (p .0) (omega arith)),
+        )
+
+ram-again : (b : Board) (m : Memory) (u : Bool) (v i : ℕ) → is163 b ≡ true
+    → withFlag u (ramEntry m (prgRamReadable b) (prgRamWritable b v) i) ≡ ramEntry m (prgRamReadable b) u i
+ram-again Unknown m u v i e = never (sym e)
+ram-again Is163 m u v i e = flag-again u (ramPage m i)
+ram-again Namco175 m u v i e = never (sym e)
+ram-again Namco340 m u v i e = never (sym e)
+
+protect-maps : (n : Namco163) (m : Memory) → length (m .«prg_pages») ≡ 64 → is163 (n .board) ≡ true → Mapped false n m
+    → Mapped true n (protectParts (n .regs .«prg_ram_protect») m)
+unfolding protectParts
+protect-maps n m p e q =
+    let v = n .regs .«prg_ram_protect» in
+    let same = entry-same m (m .«chr_pages») (protectParts v m .«prg_pages») in
+    record {
+      chr = λ k h. q .chr k h ∙ same (slotShows n k);
+      again = λ t k h. q .again t k h ∙ same (slotShows n (8 + k));
+      mirrored = q .mirrored;
+      prg = λ k b i h. part-else v m (32 + 8 * k + i) (λ j z t. absurd (omega arith)) ∙ q .prg k b i h;
+      last = λ i h. part-else v m (56 + i) (λ j z t. absurd (omega arith)) ∙ q .last i h;
+      ram = λ i h.
+          let u = unprotected v (i / 2) in
+          rw e (part-flag v m p i h ∙ (ap (withFlag u) (q .ram i h) ∙ ram-again (n .board) m u v i e));
+    }
+
+-- a board that is no 163 is mapped in one edition as in the other
+other-maps : (n : Namco163) (m : Memory) → is163 (n .board) ≡ false → Mapped false n m → Mapped true n m
+other-maps n m e q =
+    record {
+      chr = q .chr;
+      again = q .again;
+      mirrored = q .mirrored;
+      prg = q .prg;
+      last = q .last;
+      ram = λ i h. rw e (q .ram i h);
+    }
+
+pub remap-maps : (protects : Bool) (n : Namco163) (m : Memory) → MemoryTyped m → Mapped protects n (remapBanks protects n m)
+remap-maps false n m t = rw (old-tables n m) (update-maps n m (t .prg) (t .chr))
+remap-maps true n m t = by (is163 (n .board)) refl (update-maps n m (t .prg) (t .chr))
+  where
+    by : (x : Bool) → is163 (n .board) ≡ x → Mapped false n (updateBanks n m) → Mapped true n (remapBanks true n m)
+    by true e q = rw (new-tables n m e) (protect-maps n (updateBanks n m) (update-banks-kept n m .typed t .prg) e q)
+    by false e q = rw (other-tables true n m e) (other-maps n (updateBanks n m) e q)

@@ -1,6 +1,7 @@
 -- `namco163_write_blocks` meets its contract: refused by the image, or on with its state.
 use mathlib.Core.Path.{_∙_}
 use borrow.Author.Needs.{needs}
+use lib.ListN.{length}
 use Rattle.call_blocks.specs.Blocks.{cpuWriteDrops}
 use Rattle.host_state.specs.HostState.{writeGives}
 use Rattle.host_state.proofs.Laws.{word-of, image-of, lent-of}
@@ -17,7 +18,7 @@ start c = c .before .before .before .before .before
 
 call : (c : tie.After-read-image) → let a = start c .args in
     OnImage (a .image .now) (a .arena .now) (λ s. blocksOwn (a .directory .now) s (a .arena .now) (a .addr))
-    (λ s. writeGives s (a .arena .now) (a .addr) (a .val)) (c .read-image .result)
+    (λ s. writeGives (length (a .image .now)) s (a .arena .now) (a .addr) (a .val)) (c .read-image .result)
 call c = on-image _ _ _ _ _ (c .read-image .ensures)
 
 drops : (c : tie.After-read-image) → let a = start c .args in
@@ -43,7 +44,7 @@ returns-2 c =
     let r = accepted .before .before in let a = start r .args in let z = accepted .if1 .left in let o = on .write-blocks-on .ensures in
     let state = r .read-image .result .state in
     let e = either-given state (a .directory .now) (cpuOwn state (a .arena .now) (a .addr)) (a .image .now) (a .arena .now)
-    (writeGives state (a .arena .now) (a .addr) (a .val)) ∙ call r .goes-on z in
+    (writeGives (length (a .image .now)) state (a .arena .now) (a .addr) (a .val)) ∙ call r .goes-on z in
     (o .0 ∙ word-of e, (o .1 .0 ∙ image-of e, (o .1 .1 .0 ∙ lent-of e, o .1 .1 .1 ∙ drops r .made z)))
 
 pub namco163-write-blocks-spec : {M : Type 1} → statement M

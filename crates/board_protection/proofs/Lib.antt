@@ -1,0 +1,2 @@
+-- Laws of write protection.
+pub mod Laws

@@ -1,0 +1,2 @@
+-- Write protection of the 163.
+pub mod Protection
