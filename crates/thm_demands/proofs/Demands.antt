@@ -71,6 +71,8 @@ use Rattle.thm_work_ram.specs.Rust.{rustUpdateBanks}
 use Rattle.thm_work_ram.specs.ZeroPage.{ZeroPage, NoWorkRam}
 use Rattle.thm_work_ram.proofs.Mapping.{ram-as-rust, no-ram-either}
 use Rattle.thm_work_ram.proofs.Lists.{zero-page, work-ram-reads}
+use Rattle.thm_editions.specs.Editions.{ChipsAlike}
+use Rattle.thm_editions.proofs.Editions.{chips-alike}
 use Rattle.thm_wiki.specs.Notes.{start as fresh}
 use Rattle.thm_wiki.specs.Lists.{beside, Plain}
 use Rattle.thm_wiki.specs.Agrees.{Agrees163, Agrees175, Agrees340}
@@ -205,6 +207,10 @@ other-boards protects n m old a e = (other-tables protects n m e, other-writes p
 pub flags-of-work-ram-alone : (n : Namco163) (m : Memory) → MemoryTyped m → is163 (n .board) ≡ true
     → FlagsAlone (updateBanks n m) (remapBanks true n m)
 flags-of-work-ram-alone n m t e = flags-alone n m e (update-banks-kept n m .typed t .prg)
+
+-- L23: registers, sound, counter and detection are alike in both editions after the same calls
+pub editions-alike : ChipsAlike
+editions-alike = chips-alike
 
 -- L24: and a 163 that does not detect has the wiki's flags (W12), but for the time from a hard reset to the next write to 8000..FFFF
 pub f800-meets-the-page : (l : Loaded) → l .mapper ≡ 19 → l .known ≡ true → l .options .«f800_protects» ≡ true

@@ -1,0 +1,2 @@
+-- The two editions beside each other.
+pub mod Editions
