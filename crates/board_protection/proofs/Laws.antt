@@ -59,7 +59,8 @@ and-false false = refl
 
 pub other-tables : (protects : Bool) (n : Namco163) (m : Memory) → is163 (n .board) ≡ false → remapBanks protects n m ≡ updateBanks n m
 unfolding remapBanks
-other-tables protects n m e = rw (e, and-false protects)
+other-tables true n m e = rw e
+other-tables false n m e = refl
 
 pub other-writes : (protects : Bool) (old new : Board) (a : ℕ) → is163 new ≡ false → remapsIn protects old new a ≡ remaps old new a
 unfolding remapsIn
