@@ -1,12 +1,12 @@
 -- By the two lengths.
 use borrow.Author.Tests.{eq-eqb, ne-eqb}
-use Rattle.image_write.specs.Options.{roomFor}
+use Rattle.image_write.specs.Options.{optionsImageBytes, roomFor}
 use Rattle.image_write.proofs.writing.room_for.Statement.{statement}
 use Rattle.image_write.proofs.writing.room_for.Tie as tie
 
 returns : tie.Need-returns
 unfolding roomFor
-returns c = rw (eq-eqb _ _ (c .if1 .taken))
+returns c = rw (eq-eqb _ optionsImageBytes (c .if1 .taken))
 
 returns-2 : tie.Need-returns-2
 unfolding roomFor
