@@ -8,7 +8,7 @@ use crate::words::{copy_from, copy_to, load, low, store};
 
 // A place in a slice of bytes: the next byte, and the n bits held before it. A writer holds bits that are still to be stored, a reader
 // bits of the last byte that are still to be read.
-#[derive(Drop)]
+#[derive(Clone, Copy)]
 pub struct Cursor {
     pub acc: u64,
     pub n: usize,
@@ -16,7 +16,7 @@ pub struct Cursor {
 }
 
 // A field that was read, and the place after it.
-#[derive(Drop)]
+#[derive(Clone, Copy)]
 pub struct Got {
     pub v: u64,
     pub next: Cursor,

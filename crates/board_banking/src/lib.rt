@@ -1,4 +1,6 @@
 // The page tables by the registers.
+#![tactic(auto)]
+
 ghost use Rattle.std.specs.Prelude.{◌≡◌, cond, ◌+◌, ◌≤◌, ◌<◌, length};
 ghost use Rattle.limits.specs.Limits.{arena_most};
 ghost use Rattle.memory.specs.Range.{Sized};

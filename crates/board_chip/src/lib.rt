@@ -1,4 +1,6 @@
 // The board's registers: everything of the board but its memory.
+#![tactic(auto)]
+
 pub mod clock; // clock.rt: the IRQ counter
 pub mod detection; // detection.rt: which board it is, and what that says of work RAM
 pub mod load; // load.rt: the registers of a fresh board

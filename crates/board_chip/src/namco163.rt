@@ -5,7 +5,7 @@ ghost use Rattle.board_chip.specs.Namco163.{board_num, is163, is175, is340, with
 use memory::mirroring::Mirroring;
 use sound::audio::Audio;
 
-#[derive(Drop)]
+#[derive(Clone, Copy)]
 pub enum Board {
     Unknown,
     Namco163,
@@ -60,7 +60,7 @@ impl Board {
     }
 }
 
-#[derive(Drop)]
+#[derive(Clone, Copy)]
 pub struct Regs {
     pub irq_counter: u16,
     pub irq_pending: bool,
@@ -69,7 +69,7 @@ pub struct Regs {
     pub prg_ram_protect: u8,
 }
 
-#[derive(Drop)]
+#[derive(Clone, Copy)]
 pub struct Namco163 {
     pub regs: Regs,
     pub board: Board,

@@ -5,7 +5,7 @@ ghost use Rattle.board_chip.specs.Reads.{served, after_read};
 use crate::namco163::Namco163;
 
 // The board's byte, or nothing: then memory answers.
-#[derive(Drop)]
+#[derive(Clone, Copy)]
 pub enum Served {
     Byte(u8),
     Nothing,

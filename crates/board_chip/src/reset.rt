@@ -5,7 +5,7 @@ ghost use Rattle.board_chip.specs.Reset.{no_regs, reset_regs, reset_chip};
 use crate::namco163::{Namco163, Regs};
 use sound::audio::Audio;
 
-#[derive(Drop)]
+#[derive(Clone, Copy)]
 pub enum ResetKind {
     Soft,
     Hard,

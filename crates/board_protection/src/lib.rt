@@ -1,4 +1,6 @@
 // Write protection of the 163 (L19 to L21): a layer over the page tables and the registers of the Rust, which know no edition.
+#![tactic(auto)]
+
 ghost use Rattle.std.specs.Prelude.{◌/◌, ◌<◌, ◌≡◌, length};
 ghost use Rattle.memory.specs.Range.{Sized};
 ghost use Rattle.memory_map.specs.Windows.{each_page, with_flag};

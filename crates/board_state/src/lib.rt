@@ -1,4 +1,6 @@
 // The state, and whether it is in range.
+#![tactic(auto)]
+
 ghost use Rattle.std.specs.Prelude.{◌≡◌};
 ghost use Rattle.limits.specs.Every.{every};
 ghost use Rattle.board_state.specs.State.{bank_test, mapper_ok, chip_ok, in_range};
@@ -12,13 +14,13 @@ use sound::range::audio_ok;
 pub mod none; // none.rt: the state of a refused load
 
 // What a load may choose (L19): in the edition where F800 protects, work RAM of a 163 takes stores as F800 says.
-#[derive(Drop)]
+#[derive(Clone, Copy)]
 pub struct Options {
     pub f800_protects: bool,
 }
 
 // The board's state. Its bytes lie in an arena that the caller lends.
-#[derive(Drop)]
+#[derive(Clone, Copy)]
 pub struct State {
     pub chip: Namco163,
     pub memory: Memory,

@@ -1,4 +1,6 @@
 // The battery, C9: the sound RAM to its part of the arena, and back.
+#![tactic(auto)]
+
 ghost use Rattle.std.specs.Prelude.{◌+◌, ◌≤◌, ◌≡◌, length, take, drop};
 ghost use Rattle.memory.specs.declared.layout.Src.TheVariants.{BatteryExt};
 ghost use Rattle.memory_bytes.specs.Bytes.{overlay};

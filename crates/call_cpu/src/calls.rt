@@ -15,7 +15,7 @@ use memory::changes::{Changed, ChrChanges, PrgChanges, changes_between};
 use memory_bytes::bytes;
 
 // A read's answer. In each answer `refusal` is 0 for accepted.
-#[derive(Drop)]
+#[derive(Clone, Copy)]
 pub struct ByteRead {
     pub refusal: u8,
     pub byte: u8,
@@ -23,7 +23,7 @@ pub struct ByteRead {
 }
 
 // A write's answer.
-#[derive(Drop)]
+#[derive(Clone, Copy)]
 pub struct Written {
     pub refusal: u8,
     pub state: State,

@@ -1,4 +1,6 @@
 // When a run may end: no clock that remains alters anything (C24, C25).
+#![tactic(auto)]
+
 ghost use Rattle.std.specs.Prelude.{◌≡◌, not};
 ghost use Rattle.cut.specs.Counter.{moves};
 ghost use Rattle.call_idle.specs.Idle.{stepping, left, idle as idles, ends, counted};

@@ -1,4 +1,6 @@
 // Load: a cartridge's numbers to a fresh state (L1 to L5), and the arena to zeros (R5).
+#![tactic(auto)]
+
 ghost use Rattle.std.specs.Prelude.{◌≡◌, true, length, replicate};
 ghost use Rattle.memory.specs.Layout.{within_limits};
 ghost use Rattle.call_load.specs.Cartridge.{memory_at_load, fresh_state, load_answer, load_arena, LoadFits};
@@ -14,7 +16,7 @@ use memory_map::new::new_memory;
 use sound::audio::Audio;
 
 // N21: a load's answer. Where it is refused, the state is one that no call accepts.
-#[derive(Drop)]
+#[derive(Clone, Copy)]
 pub struct Loaded {
     pub refusal: u8,
     pub state: State,

@@ -1,5 +1,7 @@
 // A look before a CPU write (L18): what the write would answer. The state is a value and the arena is only read, so nothing is altered. The
 // call `preview` has no `requires`; `preview_known` requires a state in range.
+#![tactic(auto)]
+
 ghost use Rattle.std.specs.Prelude.{◌≡◌, true};
 ghost use Rattle.board_state.specs.State.{in_range};
 ghost use Rattle.call_cpu.specs.Calls.{refused_write};
@@ -11,7 +13,7 @@ use call_refusals::cpu_refusal_known;
 use memory::changes::{Changed, changes_between};
 
 // A write's answer without the state after it.
-#[derive(Drop)]
+#[derive(Clone, Copy)]
 pub struct Previewed {
     pub refusal: u8,
     pub changed: Changed,

@@ -1,4 +1,6 @@
 // The refusal number of each kind of call, 0 for accepted: N0, N20.
+#![tactic(auto)]
+
 ghost use Rattle.std.specs.Prelude.{◌≡◌, true, ◌&&◌, eqb};
 ghost use Rattle.board_state.specs.State.{in_range};
 ghost use Rattle.call_refusals.specs.Refusals.{first_of, state_checks, reset_checks, arena_checks, cpu_checks, fill_checks, battery_checks};

@@ -1,5 +1,7 @@
 // The public calls of the PPU, `chr_read` and `chr_write` (M8, M9), and those on regions, `fill`, `region_peek`, `region_write` and `sram`
 // (M10 to M13). None has a `requires`: what does not fit is refused by its number, and nothing is altered (N0).
+#![tactic(auto)]
+
 ghost use Rattle.std.specs.Prelude.{◌≡◌, length};
 ghost use Rattle.call_refusals.specs.Refusals.{first_of, arena_checks, fill_checks};
 ghost use Rattle.call_regions.specs.Regions.{chr_read, chr_write_arena, fill_arena, region_read, region_write_arena, sram_answer};
@@ -11,7 +13,7 @@ use memory::layout::Src;
 use memory_bytes::bytes;
 
 // M13: where PRG-RAM begins in the arena, and its length plus the used battery bytes.
-#[derive(Drop)]
+#[derive(Clone, Copy)]
 pub struct BatterySpan {
     pub refusal: u8,
     pub start: usize,

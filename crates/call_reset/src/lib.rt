@@ -1,4 +1,6 @@
 // Reset, soft and hard: C7, C8.
+#![tactic(auto)]
+
 ghost use Rattle.std.specs.Prelude.{◌≡◌};
 ghost use Rattle.call_reset.specs.Reset.{kind_of, reset_state};
 

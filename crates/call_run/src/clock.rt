@@ -24,7 +24,7 @@ pub fn clock(chip: Namco163) -> Namco163
     next
 }
 
-#[derive(Drop)]
+#[derive(Clone, Copy)]
 pub struct CounterRan {
     pub regs: Regs,
     // C5: which clock, the first being 1, was a rise; 0 where none was.

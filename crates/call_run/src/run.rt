@@ -21,7 +21,7 @@ pub const RUN_LIMIT: u64 = 29_781;
 pub const SAMPLES_MOST: usize = 1_986;
 
 // C5: a run's answer: its refusal or 0, the samples made, the clock of the rise, from 1, or 0, and the state.
-#[derive(Drop)]
+#[derive(Clone, Copy)]
 pub struct Ran {
     pub refusal: u8,
     pub made: usize,
@@ -103,7 +103,7 @@ fn run_piece(s: State, n: u32, samples: &mut [f32]) -> Ran
 }
 
 // A run, and how many of its clocks were made (C24); no answer has that.
-#[derive(Drop)]
+#[derive(Clone, Copy)]
 struct Counted {
     ran: Ran,
     clocks: u32,

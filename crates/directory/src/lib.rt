@@ -1,4 +1,6 @@
 // A directory of translated blocks: 256 places that the host lends.
+#![tactic(auto)]
+
 pub mod block;
 mod drops;
 pub mod fitness;
@@ -18,7 +20,7 @@ use crate::fitness::fit;
 use crate::places::{free_place, place_near, place_of, put};
 
 // A lookup's answer: all 0 for none and for refused.
-#[derive(Drop)]
+#[derive(Clone, Copy)]
 pub struct Found {
     pub refusal: u8,
     pub held: bool,

@@ -1,5 +1,7 @@
 // Which CPU pages a call touches (K5): bit k of a mask is CPU page k. What a write changes in the table is the mask that it answers; here
 // is which pages show the byte that a call stores.
+#![tactic(auto)]
+
 ghost use Rattle.std.specs.Prelude.{◌≡◌, cond, ◌+◌, ◌^◌, ◌≤◌, ◌<◌};
 ghost use Rattle.memory.specs.Memory.{region_in};
 ghost use Rattle.memory.specs.Range.{Sized};

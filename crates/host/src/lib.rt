@@ -1,5 +1,7 @@
 // The calls of the C host (H4): the seven without a directory of blocks here, the six with one in blocks.rt. Each answers 64 bits, with its
 // refusal number in the low 8, 0 for accepted (H6).
+#![tactic(auto)]
+
 mod blocks; // blocks.rt: register, lookup, find, and load, write and stored with a directory
 mod load; // load.rt: loads into an image
 

@@ -1,4 +1,6 @@
 // The host's calls with a directory on a state (H4, K5): the answer's word (H6), the image of the state after it, and the places.
+#![tactic(auto)]
+
 ghost use Rattle.std.specs.Prelude.{◌≡◌, true, [], length};
 ghost use Rattle.memory.specs.Range.{Sized};
 ghost use Rattle.board_state.specs.State.{Known};

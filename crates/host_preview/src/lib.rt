@@ -1,4 +1,6 @@
 // A host's look before a write, on a state (L18): the word that the write would answer (H6).
+#![tactic(auto)]
+
 ghost use Rattle.std.specs.Prelude.{◌≡◌, []};
 ghost use Rattle.board_state.specs.State.{Known};
 ghost use Rattle.host_state.specs.HostState.{write_on};

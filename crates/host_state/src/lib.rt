@@ -1,4 +1,6 @@
 // The host's calls on a state (H4): the answer's word (H6), and the image of the state after it.
+#![tactic(auto)]
+
 ghost use Rattle.std.specs.Prelude.{◌≤◌, ◌≡◌, true, length};
 ghost use Rattle.board_state.specs.State.{Known};
 ghost use Rattle.image_write.specs.Options.{image_at, option_set, room_for};

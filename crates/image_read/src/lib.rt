@@ -1,4 +1,5 @@
 // The state of an image: what image_write writes, read back, and which images are accepted.
+#![tactic(auto)]
 
 pub mod words; // words.rt: words back to fields
 pub mod pages; // pages.rt: the page tables of their bytes

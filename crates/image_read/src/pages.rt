@@ -15,7 +15,7 @@ use image_write::sections::{CHR_PAGES_AT, PRG_PAGES_AT};
 use memory::page::Page;
 
 // The words of eight entries: four in 44 bits, then four in 44 bits.
-#[derive(Drop)]
+#[derive(Clone, Copy)]
 pub struct Eight {
     pub first: u64,
     pub last: u64,

@@ -26,14 +26,14 @@ use memory::layout::Layout;
 use sound::audio::Audio;
 
 // What a read answers. Where it is refused, the state is one that no call accepts.
-#[derive(Drop)]
+#[derive(Clone, Copy)]
 pub struct ReadImage {
     pub refusal: u8,
     pub state: State,
 }
 
 // The board's fields as the words that hold them.
-#[derive(Drop)]
+#[derive(Clone, Copy)]
 pub struct Head {
     pub regs: u64,
     pub detection: u64,

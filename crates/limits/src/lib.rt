@@ -1,5 +1,6 @@
 // The numbers that say what is in range, each once: those that the code compares with here, all of them by the same names in
 // specs/Limits.antt.
+#![tactic(auto)]
 
 // The sound: the update counter, the current channel, the sound port's address, a phase, and the bits of `out`, those of 3825.0.
 pub const UPDATE_MOST: u8 = 14;

@@ -5,7 +5,7 @@ ghost use Rattle.memory.specs.Changes.{differ, changed, prg_changes, chr_changes
 use crate::Memory;
 use crate::page::Page;
 
-#[derive(Drop)]
+#[derive(Clone, Copy)]
 pub struct PrgChanges {
     pub mask: u64,
     pub count: u32,
@@ -13,7 +13,7 @@ pub struct PrgChanges {
     pub lowest: u32,
 }
 
-#[derive(Drop)]
+#[derive(Clone, Copy)]
 pub struct ChrChanges {
     pub mask: u16,
     pub count: u32,
@@ -22,7 +22,7 @@ pub struct ChrChanges {
 }
 
 // Which entries of the two page tables a write changed.
-#[derive(Drop)]
+#[derive(Clone, Copy)]
 pub struct Changed {
     pub prg: PrgChanges,
     pub chr: ChrChanges,

@@ -8,7 +8,7 @@ ghost use Rattle.memory.specs.Range.{GoodLayout};
 use limits::{BATTERY_LIMIT, CHR_LIMIT, CIRAM_LIMIT, PRG_RAM_LIMIT, PRG_ROM_LIMIT};
 
 // Sizes of the regions in bytes, as the host gives them.
-#[derive(Drop)]
+#[derive(Clone, Copy)]
 pub struct MemoryLayout {
     pub prg_rom: u64,
     pub prg_ram: u64,
@@ -19,7 +19,7 @@ pub struct MemoryLayout {
 }
 
 // The same in pages.
-#[derive(Drop)]
+#[derive(Clone, Copy)]
 pub struct Layout {
     pub prg_rom: usize,
     pub prg_ram: usize,
@@ -30,7 +30,7 @@ pub struct Layout {
 }
 
 // Which region a mapping refers to.
-#[derive(Drop)]
+#[derive(Clone, Copy)]
 pub enum Src {
     PrgRom,
     PrgRam,
@@ -40,7 +40,7 @@ pub enum Src {
 }
 
 // A region of the arena, in bytes.
-#[derive(Drop)]
+#[derive(Clone, Copy)]
 pub struct Region {
     pub start: usize,
     pub len: usize,

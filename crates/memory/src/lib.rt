@@ -1,4 +1,6 @@
 // The board's memory: page entries, the layout of the arena, the two page tables, their range and which entries of them change.
+#![tactic(auto)]
+
 use layout::Layout;
 use page::Page;
 
@@ -9,7 +11,7 @@ pub mod page; // page.rt: a page entry
 pub mod range; // range.rt: whether a memory is in range
 
 // The memory without its bytes, which lie in an arena that the caller lends.
-#[derive(Drop)]
+#[derive(Clone, Copy)]
 pub struct Memory {
     pub layout: Layout,
     // How much of the battery reserve is used.

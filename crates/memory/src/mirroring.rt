@@ -1,5 +1,5 @@
 // The kinds of nametable mirroring.
-#[derive(Drop)]
+#[derive(Clone, Copy)]
 pub enum Mirroring {
     Vertical,
     Horizontal,

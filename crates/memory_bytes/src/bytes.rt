@@ -11,7 +11,7 @@ use memory::layout::{Region, Src};
 use memory::page::Page;
 
 // A stretch of the arena.
-#[derive(Drop)]
+#[derive(Clone, Copy)]
 pub struct Span {
     pub start: usize,
     pub len: usize,

@@ -1,4 +1,6 @@
 // Replays a list of calls from standard input, one a line, and writes an answer line for each.
+#![tactic(auto)]
+
 use limits::ARENA_MOST;
 use replay_player::player::Player;
 

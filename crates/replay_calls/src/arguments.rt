@@ -3,19 +3,19 @@ use check::same;
 use memory::layout::Src;
 use replay_text::number::{Number, parse_number};
 
-#[derive(Drop)]
+#[derive(Clone, Copy)]
 pub enum Address {
     At(u16),
     Nothing,
 }
 
-#[derive(Drop)]
+#[derive(Clone, Copy)]
 pub enum Byte {
     Value(u8),
     Nothing,
 }
 
-#[derive(Drop)]
+#[derive(Clone, Copy)]
 pub enum Region {
     Of(Src),
     Nothing,

@@ -8,7 +8,7 @@ use replay_text::number::{Number, parse_number};
 use replay_text::words::{spaces, word};
 
 // What a load names.
-#[derive(Drop)]
+#[derive(Clone, Copy)]
 pub struct Cartridge {
     pub mapper: u64,
     pub submapper: u8,
@@ -18,7 +18,7 @@ pub struct Cartridge {
     pub f800_protects: bool,
 }
 
-#[derive(Drop)]
+#[derive(Clone, Copy)]
 pub enum Call {
     Load(Cartridge),
     Read(u16),
@@ -48,7 +48,7 @@ pub enum Call {
 }
 
 // The numbers behind the first ten spaces.
-#[derive(Drop)]
+#[derive(Clone, Copy)]
 struct Numbers {
     good: bool,
     n: [u64; 10],
@@ -69,7 +69,7 @@ fn ten_numbers(line: &[u8]) -> Numbers {
 }
 
 // Whether F800 protects, by an eleventh number, if there is one: the options of an image's byte.
-#[derive(Drop)]
+#[derive(Clone, Copy)]
 enum Edition {
     Protects(bool),
     Malformed,

@@ -2,7 +2,7 @@
 use check::same;
 use replay_text::out::put_all;
 
-#[derive(Drop)]
+#[derive(Clone, Copy)]
 pub enum Name {
     Load,
     Read,

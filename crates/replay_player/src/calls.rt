@@ -58,7 +58,7 @@ pub fn load(
 }
 
 // What a call that may change the state leaves: the state, and where the next byte of the answers goes.
-#[derive(Drop)]
+#[derive(Clone, Copy)]
 struct Answered {
     state: State,
     at: usize,

@@ -4,7 +4,7 @@ ghost use Rattle.io.specs.Counts.{IsPrefixLen};
 use board_state::State;
 use board_state::none::no_state;
 
-#[derive(Drop)]
+#[derive(Clone, Copy)]
 pub struct Player {
     // Whether a load was accepted.
     pub loaded: bool,

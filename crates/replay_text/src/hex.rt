@@ -35,7 +35,7 @@ pub fn glyph(d: u8) -> u8
     if d < 10 { 48 + d } else { 55 + d }
 }
 
-#[derive(Drop)]
+#[derive(Clone, Copy)]
 pub enum Decoded {
     Bytes(usize),
     Nothing,

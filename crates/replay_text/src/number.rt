@@ -4,7 +4,7 @@ ghost use Rattle.replay_text.specs.Number.{digits_after, in_base, number_of};
 
 use crate::hex::digit;
 
-#[derive(Drop)]
+#[derive(Clone, Copy)]
 pub enum Number {
     Value(u64),
     Nothing,

@@ -3,7 +3,7 @@
 ghost use Rattle.std.specs.Prelude.{◌≡◌};
 ghost use Rattle.sound.specs.Audio.{fresh};
 
-#[derive(Drop)]
+#[derive(Clone, Copy)]
 pub struct Audio {
     pub ram: [u8; Audio::RAM_SIZE],
     pub addr: usize,

@@ -6,7 +6,7 @@ ghost use Rattle.sound.specs.Registers.{advanced, peeked, read_of, written};
 use crate::audio::Audio;
 
 // A read's answer: the byte, and the state after it.
-#[derive(Drop)]
+#[derive(Clone, Copy)]
 pub struct SoundRead {
     pub byte: u8,
     pub audio: Audio,

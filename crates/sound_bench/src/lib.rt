@@ -1,4 +1,5 @@
 // The proved run behind a C function, for bench/.
+#![tactic(auto)]
 
 ghost use Rattle.std.specs.Prelude.{◌/◌};
 

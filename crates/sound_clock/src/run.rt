@@ -9,7 +9,7 @@ use sound::audio::Audio;
 use sound_wave::{channel, mix};
 
 // A run's answer: the state after it, and how many samples it made.
-#[derive(Drop)]
+#[derive(Clone, Copy)]
 pub struct SoundRan {
     pub audio: Audio,
     pub made: usize,

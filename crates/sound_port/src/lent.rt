@@ -5,7 +5,7 @@ ghost use Rattle.sound_port.specs.Lent.{step_of, byte_of, after_read};
 use sound::audio::Audio;
 
 // The three fields of `Audio` that a read of 4800..4FFF looks at.
-#[derive(Drop)]
+#[derive(Clone, Copy)]
 pub struct Port {
     pub ram: [u8; Audio::RAM_SIZE],
     pub addr: usize,
@@ -13,7 +13,7 @@ pub struct Port {
 }
 
 // A read's answer: the byte, and the port after it.
-#[derive(Drop)]
+#[derive(Clone, Copy)]
 pub struct PortRead {
     pub byte: u8,
     pub port: Port,

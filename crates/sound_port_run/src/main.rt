@@ -1,4 +1,6 @@
 // Reads the sound RAM through the lent port, prints it, and compares each byte with `read_register` of a sound chip that holds the same.
+#![tactic(auto)]
+
 ghost use Rattle.std.specs.Prelude.{◌≡◌, cond, ◌≤◌, ◌<◌, eqb, length};
 ghost use Rattle.sound_port_run.specs.Agree.{agree};
 

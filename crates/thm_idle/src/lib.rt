@@ -1,1 +1,2 @@
 // When a run ends early, as theorems and a table in specs/ and proofs/. This crate has no code.
+#![tactic(auto)]
