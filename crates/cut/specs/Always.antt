@@ -1,6 +1,6 @@
 -- What holds after every list of calls (C11): a fact about state and arena that each call keeps, and refusals that never come.
 use Rattle.std.specs.Prelude.{ℕ, ◌≡◌, List, [], ◌∷◌}
-use Rattle.cut.specs.Calls.{Call, run, other, Reply, refused, Board, Trace, last, then, Observed}
+use Rattle.cut.specs.Calls.{Call, run, other, refused, Board, Trace, last, then, Observed}
 
 -- C12: each call of a list has arguments of their types
 abbrev pub AllTyped : {Sample Arg : Type 0} → (Call Sample Arg → Type 0) → List (Call Sample Arg) → Type 0

@@ -1,12 +1,11 @@
 -- K8 and K9 over any lawful machine.
 use Prim.Native.Nat.{ℕ}
 use mathlib.Core.Path.{◌≡◌, refl, sym, ap, ◌∙◌}
-use mathlib.Core.Bool.{Bool, true, false, cond}
+use mathlib.Core.Bool.{Bool, true, false}
 use mathlib.Core.List.{List, [], ◌∷◌, ◌++◌}
 use native.Mathlib.Omega.{arith}
 use native.Mathlib.Decide.{ℕ_discrete}
 use borrow.Author.Tests.{eq-eqb, ne_eqb}
-use lib.Dec.{eqb}
 use Rattle.handed.specs.Handed.{Kind, registers, other, Machine, Lawful, AllTyped, run, Always, NoneOf, NoCause, Since}
 
 module _ {H Call : Type 0} (m : Machine H Call) (Good : H → Type 0) (Typed : Call → Type 0) (laws : Lawful m Good Typed) where

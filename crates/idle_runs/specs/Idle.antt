@@ -1,6 +1,6 @@
 -- C24 to C26, for any clock: a clock that alters nothing, and how many clocks of a run are enough.
 use Rattle.std.specs.Prelude.{ℕ, zero, suc, ◌≤◌, ◌<◌, ◌≡◌, Bool, true, false, cond}
-use Rattle.std.proofs.Math.Option.{Option, none}
+use Rattle.std.proofs.Math.Option.{none}
 use Rattle.cut.specs.Calls.{Point, start}
 use Rattle.cut.specs.Machine.{Clocked, ticks}
 

@@ -21,7 +21,7 @@ abbrev page-field : Field
 page-field = field PageRow.the_type
 
 words-fit : (ps : List Page) (us : List Val)
-    → shadow (each page-field.row.Denot page-field.row.own_val (map page-field.into ps) us)
+    → shadow (each PageRow.the_row.Denot PageRow.the_row.own_val ps us)
     → (i : ℕ) → (get_or ps i unmapped).0 < 2 ^ 32
 words-fit [] us s i = omega arith
 words-fit (p ∷ ps) [] s i = absurd s
@@ -32,8 +32,8 @@ pub memory-typed : (m : Memory) (vs : List Val) → Is Row.the_row m vs → Memo
 memory-typed m vs is =
     let tables = is.1.1.1.1 in
     record {
-      prg = sym (length-map m.prg_pages _) ∙ tables.0.1.0.1;
-      chr = sym (length-map m.chr_pages _) ∙ tables.1.0.1.0.1;
+      prg = tables.0.1.0.1;
+      chr = tables.1.0.1.0.1;
       prg_words = words-fit m.prg_pages tables.0.0 tables.0.1.1;
       chr_words = words-fit m.chr_pages tables.1.0.0 tables.1.0.1.1;
     }

@@ -1,6 +1,6 @@
 -- What owning an `Audio` tells of its fields: the arrays have their lengths, bytes are below 256, and the outputs and `out` are f32 values.
 use Prim.Native.Nat.{ℕ, zero, suc}
-use mathlib.Core.List.{List, [], ◌∷◌, map}
+use mathlib.Core.List.{List, [], ◌∷◌}
 use lib.Dec.{T}
 use lib.ListN.{get_or}
 use lib.Ieee.{Float, nan, binary32, fits}
@@ -10,12 +10,12 @@ use denote.Shadow.{shadow}
 use denote.Array.{each}
 use denote.Laws.{Is}
 use denote.Struct.Field.{f32-field}
-use borrow.Author.Rules.{length_unmapped, elem_fits_field}
+use borrow.Author.Rules.{elem_Fits}
 use Rattle.sound.specs.declared.audio.Audio.{Audio}
 use Rattle.sound.specs.Range.{Typed}
 use Rattle.sound.specs.contracts.audio.Audio as Row
 
-pub floats-fit : (xs : List Float) (us : List Val) → shadow (each f32-field.row.Denot f32-field.row.own_val (map (λ v. v) xs) us)
+pub floats-fit : (xs : List Float) (us : List Val) → shadow (each f32-field.row.Denot f32-field.row.own_val xs us)
     → (i : ℕ) → T (fits binary32 (get_or xs i nan))
 unfolding fits
 floats-fit [] us s i = tt
@@ -29,10 +29,10 @@ typed a vs is =
     let outs = is.1.1.1.1.1.1.1.1.0 in
     let rest = is.1.1.1.1.1.1.1.1.1 in
     record {
-      ram_length = length_unmapped ℕ a.ram 128 ram.1.0.1;
-      bytes = λ i. (elem_fits_field w8 w8 a.ram ram.0 i ram.1.1 tt).fits;
-      outputs_length = length_unmapped Float a.channel_out 8 outs.1.0.1;
+      ram_length = ram.1.0.1;
+      bytes = λ i. (elem_Fits w8 w8 a.ram ram.0 i ram.1.1 tt).fits;
+      outputs_length = outs.1.0.1;
       outputs_fit = floats-fit a.channel_out outs.0 outs.1.1;
-      phases_length = length_unmapped ℕ a.phase_ext 8 rest.1.0.1.0.1;
+      phases_length = rest.1.0.1.0.1;
       out_fits = rw rest.0.1 tt;
     }

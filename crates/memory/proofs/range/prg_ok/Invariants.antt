@@ -1,0 +1,15 @@
+-- `prg_ok` meets its contract: `ok` says whether all entries before i pass.
+use Prim.Native.Nat.{◌-◌, ◌≤◌}
+use mathlib.Core.Path.{◌≡◌, refl}
+use native.Mathlib.Omega.{arith}
+use borrow.Author.Rules.{rules}
+use Rattle.limits.specs.Every.{every}
+use Rattle.memory.specs.Range.{entry_test}
+use Rattle.limits.proofs.Every.{every-next}
+use Rattle.memory.proofs.range.prg_ok.Given as goal
+
+abbrev pub invariant-loop-i : goal.invariant-loop-i
+invariant-loop-i l = (l.i ≤ 64) × (l.ok ≡ every l.i (entry_test l.bytes l.pages))
+
+abbrev pub decreases-loop-i : goal.decreases-loop-i
+decreases-loop-i l = 64 - l.i

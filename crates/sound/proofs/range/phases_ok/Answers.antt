@@ -1,0 +1,16 @@
+-- `phases_ok` meets its contract: `ok` says whether all phases before i pass.
+use mathlib.Core.Path.{◌≡◌, refl}
+use native.Mathlib.Omega.{arith}
+use Rattle.limits.specs.Every.{every}
+use Rattle.limits.proofs.Every.{every-next}
+use Rattle.sound.proofs.range.phases_ok.Goals as goal
+
+pub loop-i-init : goal.loop-i-init
+unfolding every
+loop-i-init c = (omega arith, refl)
+
+pub loop-i-preserved : goal.loop-i-preserved
+loop-i-preserved c = (omega arith, every-next _ _ _ _ c.loop-i.invariant.1 refl)
+
+pub returns : goal.returns
+returns c = let e : c.loop-i.i ≡ 8 = omega arith in rw e at c.loop-i.invariant.1
