@@ -1,5 +1,5 @@
 -- C7, C8: the Rust's `reset`.
-use Rattle.std.specs.Prelude.{ℕ, true, false, List, set, slice_set}
+use Rattle.std.specs.Prelude.{true, false, List, slice_set}
 use Rattle.sound.specs.Audio.{fresh}
 use Rattle.board_chip.specs.declared.namco163.Regs.{Regs}
 use Rattle.board_chip.specs.declared.namco163.Namco163.{Namco163}
