@@ -1,5 +1,5 @@
 -- A channel's update stays in range: its phase below 2 ^ 24, its level in 0..=3825.
-use Rattle.std.proofs.Common.{ℕ, ◌+◌, ◌-◌, ◌*◌, ◌<◌, ◌≤◌, List, get_or, mod-lt, mul-le-mul, arith}
+use Rattle.std.proofs.Common.{ℕ, ◌+◌, ◌*◌, ◌<◌, ◌≤◌, List, get_or, mod-lt, mul-le-mul, arith}
 use Rattle.limits.specs.Limits.{phase_limit, level_most}
 use Rattle.sound_wave.specs.Channel.{frequency_at, wave_length_at, next_phase, level_at}
 
