@@ -1,8 +1,7 @@
 -- Registerings, pages and drops at their edges, computed from the definitions.
-use Rattle.std.proofs.Common.{◌≡◌, ℕ, Bool, true, false, List, [], ◌∷◌, set, replicate, refl}
-use Rattle.memory.specs.Page.{has_bit}
+use Rattle.std.proofs.Common.{◌≡◌, ℕ, true, false, List, [], ◌∷◌, set, replicate, refl}
 use Rattle.directory.specs.Block.{fits, under, holds, word_of}
-use Rattle.directory.specs.Fit.{any, first, sound, fit}
+use Rattle.directory.specs.Fit.{any, sound, fit}
 use Rattle.directory.specs.Calls.{register_refusal, put}
 use Rattle.directory.specs.Drop.{some_below, goes, gone, dropped, pages_under}
 

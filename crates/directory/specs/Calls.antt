@@ -1,5 +1,5 @@
 -- K3, K4: registering and looking up, refused calls too.
-use Rattle.std.specs.Prelude.{ℕ, min, max, Bool, true, false, cond, not, ◌&&◌, ◌||◌, List, [], ◌∷◌, ◌==◌, nat_lt, slice_set}
+use Rattle.std.specs.Prelude.{ℕ, min, max, false, cond, not, ◌||◌, List, [], ◌∷◌, ◌==◌, nat_lt, slice_set}
 use Rattle.directory.specs.declared.Found.{Found}
 use Rattle.directory.specs.Block.{len_of, number_of, word_of, fits, free, holds}
 use Rattle.directory.specs.Fit.{any, first, fit}

@@ -1,10 +1,10 @@
 -- The bits of an or, an and, a power, and of a run of ones; a number is not 0 where some bit is set. Assumes nothing.
-use Rattle.std.proofs.Common.{◌≡◌, ℕ, zero, suc, ◌+◌, ◌-◌, ◌*◌, ◌/◌, ◌%◌, ◌^◌, ◌<◌, ◌≤◌, min, max, Bool, true, false, not, ◌&&◌, ◌||◌, eqb, leb, sym, refl, ap, ◌∙◌, lt_of_lt_of_le, lt_of_le_of_lt, mod-lt, mul_assoc, one-mul, pow-suc, one-add, arith, pow_pos, pow_mono, pow-add, shl_exact, shr-shr, shr_lt, eq-eqb, ne_eqb, le-leb}
+use Rattle.std.proofs.Common.{◌≡◌, ℕ, zero, suc, ◌+◌, ◌-◌, ◌*◌, ◌/◌, ◌%◌, ◌^◌, ◌<◌, ◌≤◌, min, max, Bool, false, not, ◌&&◌, ◌||◌, eqb, leb, sym, refl, ap, ◌∙◌, lt_of_lt_of_le, lt_of_le_of_lt, mod-lt, mul_assoc, one-mul, pow-suc, one-add, arith, pow_pos, pow_mono, pow-add, shl_exact, shr-shr, shr_lt, eq-eqb, ne_eqb, le-leb}
 use native.Mathlib.Decide.{dec_le, dec_lt, ℕ_discrete}
 use native.Mathlib.Nat.{div-eq_of_lt}
 use borrow.Author.Tests.{lt-leb}
 use lib.Bits.{bit_and, bit_or, and_step, or_step, and_shr, or_shr, or_mod, or_add_and, and_le_l, and_le_r, shifted_even}
-use lib.Pow.{pow-lt, shl-shr, split, high, ones_split, ones_lt}
+use lib.Pow.{shl-shr, split, high, ones_split, ones_lt}
 use Rattle.memory.specs.Page.{has_bit}
 use Rattle.directory.specs.Drop.{some_below}
 

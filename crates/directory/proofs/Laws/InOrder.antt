@@ -1,15 +1,15 @@
 -- K3, K5: starts that ascend, with the free places behind, still do after a registering and after a drop, so that a directory from a load
 -- stays one that the pass over neighbours shows fit. Assumes nothing.
-use Rattle.std.proofs.Common.{◌≡◌, ℕ, zero, suc, ◌+◌, ◌*◌, ◌/◌, ◌%◌, ◌^◌, ◌<◌, ◌≤◌, min, max, Bool, true, false, cond, not, ◌&&◌, ◌||◌, eqb, List, [], ◌∷◌, ◌++◌, get_or, set, sym, refl, ap, ◌∙◌, subst, arith, lt-ltb, eq-eqb, ne_eqb, eqb-true}
+use Rattle.std.proofs.Common.{◌≡◌, ℕ, suc, ◌^◌, ◌<◌, ◌≤◌, min, max, Bool, true, false, cond, ◌&&◌, ◌||◌, eqb, List, [], ◌∷◌, ◌++◌, get_or, set, sym, refl, ◌∙◌, arith, lt-ltb, eq-eqb, ne_eqb, eqb-true}
 use native.Mathlib.Decide.{dec_le, ℕ_discrete}
 use Rattle.directory.specs.Block.{start_of, len_of, word_of, fits, free, holds}
-use Rattle.directory.specs.Fit.{any, first, fit}
+use Rattle.directory.specs.Fit.{any, first}
 use Rattle.directory.specs.Ordered.{all_free, rises, ordered}
 use Rattle.directory.specs.Calls.{register_refusal, put, with_block, registered}
 use Rattle.directory.specs.Drop.{gone, dropped}
 use Rattle.directory.proofs.Laws.Pages.{and_0, and-1, or-0, or-1, fits-says}
-use Rattle.directory.proofs.Laws.Sound.{holds-not-free, holds-start, holds_of, holds-free}
-use Rattle.directory.proofs.Laws.Ordered.{free-none, Rises, rises-says, ordered-above}
+use Rattle.directory.proofs.Laws.Sound.{holds-not-free, holds-start, holds_of}
+use Rattle.directory.proofs.Laws.Ordered.{free-none, rises-says, ordered-above}
 use Rattle.directory.proofs.Laws.Registered.{accepted, word_back}
 use Rattle.directory.proofs.Laws.Dropped.{gone-free}
 

@@ -1,5 +1,5 @@
 -- A pass with a bit for each start finds what the plain definition says. Assumes nothing.
-use Rattle.std.proofs.Common.{◌≡◌, ℕ, zero, suc, ◌+◌, ◌*◌, ◌/◌, ◌%◌, ◌^◌, ◌<◌, ◌≤◌, Bool, true, false, cond, not, ◌&&◌, ◌||◌, eqb, List, [], ◌∷◌, length, get_or, drop, set, replicate, sym, refl, ap, ◌∙◌, add-one, arith, length-set, drop_of_length-le, drop-cons, get_or-set_other, get_or-set_same, eq-eqb, ne_eqb}
+use Rattle.std.proofs.Common.{◌≡◌, ℕ, zero, suc, ◌+◌, ◌/◌, ◌%◌, ◌^◌, ◌<◌, ◌≤◌, Bool, true, false, cond, not, ◌&&◌, ◌||◌, eqb, List, [], ◌∷◌, length, get_or, drop, set, replicate, sym, refl, ap, ◌∙◌, add-one, arith, length-set, drop_of_length-le, drop-cons, get_or-set_other, get_or-set_same, eq-eqb, ne_eqb}
 use mathlib.Core.Bool.{or_comm}
 use native.Mathlib.Decide.{ℕ_discrete}
 use lib.Bits.{bit_or}

@@ -1,5 +1,5 @@
 -- A directory in the order of its starts is fit; the pass that finds it in order. Assumes nothing.
-use Rattle.std.proofs.Common.{◌≡◌, ℕ, zero, suc, ◌+◌, ◌-◌, ◌<◌, ◌≤◌, Bool, true, false, cond, ◌&&◌, ◌||◌, eqb, ltb, List, [], ◌∷◌, length, get_or, drop, sym, refl, ap, ◌∙◌, le_refl, add-one, arith, drop_of_length-le, drop-cons, ltb-true, lt-ltb, eq-eqb, ne_eqb, eqb-true}
+use Rattle.std.proofs.Common.{◌≡◌, ℕ, suc, ◌+◌, ◌-◌, ◌<◌, ◌≤◌, Bool, true, false, ◌&&◌, ◌||◌, ltb, List, [], ◌∷◌, length, get_or, drop, sym, refl, ap, ◌∙◌, le_refl, add-one, arith, drop_of_length-le, drop-cons, ltb-true, lt-ltb, eq-eqb, ne_eqb, eqb-true}
 use native.Mathlib.Decide.{ℕ_discrete}
 use lib.Bits.{bit_or, or_add_and}
 use Rattle.directory.specs.Block.{start_of, len_of, fits, free, holds}

@@ -1,11 +1,11 @@
 -- A block that is put where its start belongs: the pass that does it, and what is held afterwards. Assumes nothing.
-use Rattle.std.proofs.Common.{◌≡◌, ℕ, zero, suc, ◌+◌, ◌<◌, ◌≤◌, min, max, Bool, true, false, cond, ◌||◌, List, [], ◌∷◌, length, get_or, set, sym, refl, ap, ◌∙◌, add-one, arith, length-set, eq-eqb, ne_eqb}
+use Rattle.std.proofs.Common.{◌≡◌, ℕ, zero, suc, ◌+◌, ◌<◌, ◌≤◌, min, max, Bool, true, false, cond, List, [], ◌∷◌, length, get_or, set, sym, refl, ap, ◌∙◌, add-one, arith, length-set, eq-eqb, ne_eqb}
 use native.Mathlib.Decide.{dec_le, ℕ_discrete}
 use Rattle.directory.specs.Block.{start_of, free, holds}
 use Rattle.directory.specs.Fit.{any, sound}
 use Rattle.directory.specs.Calls.{put, word_at}
 use Rattle.directory.proofs.Laws.Pages.{or-0, or-1}
-use Rattle.directory.proofs.Laws.Sound.{holds-start, holds_of, holds-other, holds-free, SoundCons, sound-cons, cons-sound}
+use Rattle.directory.proofs.Laws.Sound.{holds-start, holds_of, holds-other, holds-free, sound-cons, cons-sound}
 
 -- ---- the pass
 

@@ -1,15 +1,14 @@
 -- Registering keeps a directory fit, and what a lookup finds afterwards. Assumes nothing.
-use Rattle.std.proofs.Common.{◌≡◌, ℕ, zero, suc, ◌+◌, ◌*◌, ◌/◌, ◌%◌, ◌^◌, ◌<◌, ◌≤◌, Bool, true, false, cond, not, ◌&&◌, ◌||◌, eqb, ltb, List, [], ◌∷◌, length, get_or, set, sym, refl, ap, ◌∙◌, arith, length-set, get_or-set_other, get_or-set_same, ltb-false, lt-ltb, eq-eqb, ne_eqb}
+use Rattle.std.proofs.Common.{◌≡◌, ℕ, zero, suc, ◌^◌, ◌<◌, ◌≤◌, Bool, true, false, cond, not, ◌||◌, eqb, ltb, List, [], ◌∷◌, length, get_or, set, sym, refl, ap, ◌∙◌, arith, length-set, get_or-set_other, get_or-set_same, ltb-false, eq-eqb, ne_eqb}
 use native.Mathlib.Decide.{ℕ_discrete}
-use Rattle.directory.specs.declared.Found.{Found}
 use Rattle.directory.specs.Block.{start_of, len_of, number_of, word_of, fits, free, holds}
 use Rattle.directory.specs.Fit.{any, first, sound, fit}
 use Rattle.directory.specs.Calls.{register_refusal, put, with_block, registered, word_at, refused_lookup, found_of, lookup}
 use Rattle.directory.proofs.Laws.Pages.{fits-says}
 use Rattle.directory.proofs.Laws.Places.{first_any}
 use Rattle.directory.proofs.Laws.Put.{put-length, sound-put, word-put}
-use Rattle.directory.proofs.Laws.Sound.{holds-not-free, holds-start, holds_of, holds-other, holds-free, any_at, any_none}
-use Rattle.directory.proofs.Laws.Sound.{SoundCons, sound-cons, cons-sound, sound-once, fit_length, fit-sound, sound-fit}
+use Rattle.directory.proofs.Laws.Sound.{holds-not-free, holds-start, holds_of, holds-other, any_at, any_none}
+use Rattle.directory.proofs.Laws.Sound.{sound-cons, cons-sound, sound-once, fit_length, fit-sound, sound-fit}
 
 -- ---- an accepted registering
 

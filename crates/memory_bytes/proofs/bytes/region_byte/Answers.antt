@@ -1,0 +1,12 @@
+-- By the test whether the region is empty.
+use borrow.Author.Tests.{eq-eqb, ne_eqb}
+use Rattle.memory_bytes.specs.Bytes.{wrapped_at}
+use Rattle.memory_bytes.proofs.bytes.region_byte.Goals as goal
+
+pub returns-then-len-eq0 : goal.returns-then-len-eq0
+unfolding wrapped_at
+returns-then-len-eq0 c = rw (eq-eqb _ _ c.if-len-eq0.true)
+
+pub returns : goal.returns
+unfolding wrapped_at
+returns c = rw (ne_eqb _ _ c.if-len-eq0.false, c.wrapped_at-at.ensures.0)
