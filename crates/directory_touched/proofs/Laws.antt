@@ -9,10 +9,10 @@ use native.Mathlib.Nat.{pow-suc, mul_comm, div-div-eq-div-mul, zero-div, lt_of_l
 use native.Mathlib.Numerals.{sub-one}
 use borrow.Author.Tests.{eq-eqb, eqb-true, le-leb, not-false}
 use lib.Bits.{bit_or, or_zero_l}
-use lib.Dec.{eqb, leb}
+use lib.Dec.{eqb}
 use lib.ListN.{length, get_or, drop, length-drop, drop_of_length-le}
 use lib.Seq.{drop-cons}
-use lib.Pow.{pow_mono, pow_pos}
+use lib.Pow.{pow_mono}
 use Rattle.memory.specs.declared.page.Page.{Page}
 use Rattle.memory_bytes.specs.Bytes.{shown_at, store}
 use Rattle.memory.specs.Changes.{same, changed}
