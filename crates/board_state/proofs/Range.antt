@@ -5,7 +5,7 @@ use mathlib.Core.Bool.{Bool, true, false, ◌||◌}
 use mathlib.Core.List.{List}
 use mathlib.Core.Logic.{inl, inr}
 use native.Mathlib.Omega.{arith}
-use borrow.Author.Rules.{length_unmapped, elem_fits_field}
+use borrow.Author.Rules.{elem_Fits}
 use borrow.Author.Tests.{leb-true, le-leb, eqb-true, ltb-true, ltb-false}
 use lib.Dec.{eqb, ltb}
 use lib.ListN.{length, get_or, get_or-eq_default}
@@ -15,7 +15,7 @@ use denote.Laws.{Is}
 use Rattle.limits.specs.Limits.{update_most, channel_most, address_most, bank_most}
 use Rattle.limits.specs.Every.{every}
 use Rattle.limits.proofs.Every.{and_left, and_right, both, at_most, every-at, every-all}
-use Rattle.memory.specs.Range.{memory_ok, MemoryInRange}
+use Rattle.memory.specs.Range.{MemoryInRange}
 use Rattle.memory.proofs.Laws.Range.{memory-in, in_memory}
 use Rattle.memory.proofs.Laws.Typed.{memory-typed}
 use Rattle.sound.specs.Range.{audio_ok, Known as AudioKnown}
@@ -100,10 +100,10 @@ owned-typed s vs is =
             protect = regs.1.1.1.1.0.1;
             mapper = n.1.1.0.1;
             submapper = n.1.1.1.0.1;
-            flags = length_unmapped Bool s.chip.nt_bank_enable 12 flags.1.0.1;
-            chr = length_unmapped ℕ s.chip.chr_banks 12 chr.1.0.1;
-            chr_bytes = λ i. (elem_fits_field w8 w8 s.chip.chr_banks chr.0 i chr.1.1 tt).fits;
-            prg = length_unmapped ℕ s.chip.prg_banks 3 prg.1.0.1;
+            flags = flags.1.0.1;
+            chr = chr.1.0.1;
+            chr_bytes = λ i. (elem_Fits w8 w8 s.chip.chr_banks chr.0 i chr.1.1 tt).fits;
+            prg = prg.1.0.1;
             audio = audio-typed s.chip.audio _ n.1.1.1.1.0;
           };
       memory = memory-typed s.memory _ fields.1.0;
