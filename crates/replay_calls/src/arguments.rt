@@ -1,5 +1,4 @@
 // A word as an address, a byte or a region.
-use check::same;
 use memory::layout::Src;
 use replay_text::number::{Number, parse_number};
 
@@ -44,19 +43,19 @@ pub fn parse_byte(word: &[u8]) -> Byte {
 }
 
 pub fn parse_region(word: &[u8]) -> Region {
-    if same(word, b"prg-rom") {
+    if word == b"prg-rom" {
         return Region::Of(Src::PrgRom);
     }
-    if same(word, b"prg-ram") {
+    if word == b"prg-ram" {
         return Region::Of(Src::PrgRam);
     }
-    if same(word, b"battery") {
+    if word == b"battery" {
         return Region::Of(Src::BatteryExt);
     }
-    if same(word, b"chr") {
+    if word == b"chr" {
         return Region::Of(Src::Chr);
     }
-    if same(word, b"ciram") {
+    if word == b"ciram" {
         return Region::Of(Src::CiRam);
     }
     Region::Nothing

@@ -1,7 +1,6 @@
 // A line as a call.
 use crate::arguments::{Address, Byte, Region, parse_address, parse_byte, parse_region};
 use crate::name::Name;
-use check::same;
 use memory::layout::{MemoryLayout, Src};
 use replay_text::hex::{Decoded, decode};
 use replay_text::number::{Number, parse_number};
@@ -216,10 +215,10 @@ fn run(line: &[u8]) -> Call {
 }
 
 fn reset(line: &[u8]) -> Call {
-    if same(word(line, 1), b"soft") {
+    if word(line, 1) == b"soft" {
         return Call::Reset(0);
     }
-    if same(word(line, 1), b"hard") {
+    if word(line, 1) == b"hard" {
         return Call::Reset(1);
     }
     Call::Malformed

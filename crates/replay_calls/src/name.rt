@@ -1,5 +1,4 @@
 // The calls' names, and the words that each has.
-use check::same;
 use replay_text::out::put_all;
 
 #[derive(Clone, Copy)]
@@ -29,28 +28,28 @@ pub enum Name {
 
 // The calls on single bytes.
 fn byte_name(word: &[u8]) -> Name {
-    if same(word, b"read") {
+    if word == b"read" {
         return Name::Read;
     }
-    if same(word, b"peek") {
+    if word == b"peek" {
         return Name::Peek;
     }
-    if same(word, b"write") {
+    if word == b"write" {
         return Name::Write;
     }
-    if same(word, b"preview") {
+    if word == b"preview" {
         return Name::Preview;
     }
-    if same(word, b"chr-read") {
+    if word == b"chr-read" {
         return Name::ChrRead;
     }
-    if same(word, b"chr-write") {
+    if word == b"chr-write" {
         return Name::ChrWrite;
     }
-    if same(word, b"region-peek") {
+    if word == b"region-peek" {
         return Name::RegionPeek;
     }
-    if same(word, b"region-write") {
+    if word == b"region-write" {
         return Name::RegionWrite;
     }
     Name::Unknown
@@ -58,25 +57,25 @@ fn byte_name(word: &[u8]) -> Name {
 
 // The calls on the whole cartridge, and on the battery.
 fn cartridge_name(word: &[u8]) -> Name {
-    if same(word, b"load") {
+    if word == b"load" {
         return Name::Load;
     }
-    if same(word, b"reset") {
+    if word == b"reset" {
         return Name::Reset;
     }
-    if same(word, b"sync-battery") {
+    if word == b"sync-battery" {
         return Name::SyncBattery;
     }
-    if same(word, b"restore-battery") {
+    if word == b"restore-battery" {
         return Name::RestoreBattery;
     }
-    if same(word, b"sram") {
+    if word == b"sram" {
         return Name::Sram;
     }
-    if same(word, b"image") {
+    if word == b"image" {
         return Name::Image;
     }
-    if same(word, b"arena") {
+    if word == b"arena" {
         return Name::Arena;
     }
     Name::Unknown
@@ -84,13 +83,13 @@ fn cartridge_name(word: &[u8]) -> Name {
 
 // The calls on the directory of translated blocks.
 fn block_name(word: &[u8]) -> Name {
-    if same(word, b"register") {
+    if word == b"register" {
         return Name::Register;
     }
-    if same(word, b"lookup") {
+    if word == b"lookup" {
         return Name::Lookup;
     }
-    if same(word, b"directory") {
+    if word == b"directory" {
         return Name::Directory;
     }
     Name::Unknown
@@ -106,10 +105,10 @@ fn other_name(word: &[u8]) -> Name {
 }
 
 pub fn name_of(word: &[u8]) -> Name {
-    if same(word, b"run") {
+    if word == b"run" {
         return Name::Run;
     }
-    if same(word, b"fill") {
+    if word == b"fill" {
         return Name::Fill;
     }
     let n = byte_name(word);

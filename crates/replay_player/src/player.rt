@@ -1,5 +1,5 @@
 // What lasts from line to line, beside the lent arrays.
-ghost use Rattle.io.specs.Counts.{IsPrefixLen};
+ghost use Rattle.replay_player.specs.Counts.{IsPrefixLen};
 
 use board_state::State;
 use board_state::none::no_state;
@@ -15,7 +15,7 @@ pub struct Player {
     pub line_len: usize,
     // Bytes of answers that are not written yet.
     pub out_len: usize,
-    // No input is left, or the output takes no more.
+    // No input is left.
     pub ended: bool,
 }
 

@@ -4,8 +4,8 @@
 ghost use Rattle.std.specs.Prelude.{◌≡◌, cond, ◌≤◌, ◌<◌, eqb, length};
 ghost use Rattle.sound_port_run.specs.Agree.{agree};
 
-use libc::STDOUT_FILENO;
 use sound::audio::Audio;
+use std::io;
 
 fn equal(a: u8, b: u8) -> usize
     ensures { (result ≡ cond (eqb a b) 1 0) × (result ≤ 1) }
@@ -34,27 +34,28 @@ fn agreeing(audio: Audio, bytes: &[u8]) -> usize
 }
 
 // Rows of sixteen bytes.
-fn print_rows(bytes: &[u8]) {
+fn print_rows<P: Print>(rt: &P, bytes: &[u8]) -> io::Result<()> {
     let mut i: usize = 0;
     while i < bytes.len() {
-        io::print_hex(STDOUT_FILENO, bytes[i] as u64, 2);
+        let byte = bytes[i];
+        print!(rt; "{byte:02x}")?;
         i += 1;
         if i % 16 == 0 {
-            io::write_all(STDOUT_FILENO, b"\n");
+            rt.write_all(b"\n")?;
         } else {
-            io::write_all(STDOUT_FILENO, b" ");
+            rt.write_all(b" ")?;
         }
     }
+    Ok(())
 }
 
-// Reads through the port and prints what it read; answers how many bytes agree, which are all.
+// Reads through the port; answers how many bytes agree, which are all.
 fn show(audio: Audio, bytes: &mut [u8]) -> usize
     requires { audio.addr < 128 }
     ensures { result ≡ length bytes.old }
 {
     let ram = audio.ram;
     sound_port::block::read_block(ram, audio.addr, audio.auto_increment, bytes);
-    print_rows(bytes);
     agreeing(audio, bytes)
 }
 
@@ -71,25 +72,24 @@ fn numbered() -> Audio
     a
 }
 
-fn main() {
+fn main(rt: HostRuntime) -> io::Result<()> {
     let mut a = numbered();
     let mut all = [0u8; 128];
     let mut row = [0u8; 16];
-    io::write_all(STDOUT_FILENO, b"Byte k of the sound RAM holds k.\n");
-    io::write_all(STDOUT_FILENO, b"128 reads from 00, auto-increment set:\n");
+    println!(rt; "Byte k of the sound RAM holds k.")?;
+    println!(rt; "128 reads from 00, auto-increment set:")?;
     a.auto_increment = true;
     let first = show(a, &mut all);
-    io::write_all(STDOUT_FILENO, b"16 reads from 78, auto-increment set:\n");
+    print_rows(&rt, &all)?;
+    println!(rt; "16 reads from 78, auto-increment set:")?;
     a.addr = 0x78;
     let second = show(a, &mut row);
-    io::write_all(STDOUT_FILENO, b"16 reads from 78, auto-increment clear:\n");
+    print_rows(&rt, &row)?;
+    println!(rt; "16 reads from 78, auto-increment clear:")?;
     a.auto_increment = false;
     let third = show(a, &mut row);
+    print_rows(&rt, &row)?;
     let same = first + second + third;
-    check::expect(same == 160);
-    io::print_decimal(STDOUT_FILENO, same as u64);
-    io::write_all(
-        STDOUT_FILENO,
-        b" of 160 bytes are those of read_register.\n",
-    );
+    prove!(same == 160);
+    println!(rt; "{same} of 160 bytes are those of read_register.")
 }
