@@ -1,6 +1,7 @@
 // A word as an address, a byte or a region.
 use memory::layout::Src;
 use replay_text::number::{Number, parse_number};
+use replay_text::words::same;
 
 #[derive(Clone, Copy)]
 pub enum Address {
@@ -43,19 +44,19 @@ pub fn parse_byte(word: &[u8]) -> Byte {
 }
 
 pub fn parse_region(word: &[u8]) -> Region {
-    if word == b"prg-rom" {
+    if same(word, b"prg-rom") {
         return Region::Of(Src::PrgRom);
     }
-    if word == b"prg-ram" {
+    if same(word, b"prg-ram") {
         return Region::Of(Src::PrgRam);
     }
-    if word == b"battery" {
+    if same(word, b"battery") {
         return Region::Of(Src::BatteryExt);
     }
-    if word == b"chr" {
+    if same(word, b"chr") {
         return Region::Of(Src::Chr);
     }
-    if word == b"ciram" {
+    if same(word, b"ciram") {
         return Region::Of(Src::CiRam);
     }
     Region::Nothing

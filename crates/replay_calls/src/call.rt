@@ -4,7 +4,7 @@ use crate::name::Name;
 use memory::layout::{MemoryLayout, Src};
 use replay_text::hex::{Decoded, decode};
 use replay_text::number::{Number, parse_number};
-use replay_text::words::{spaces, word};
+use replay_text::words::{same, spaces, word};
 
 // What a load names.
 #[derive(Clone, Copy)]
@@ -215,10 +215,10 @@ fn run(line: &[u8]) -> Call {
 }
 
 fn reset(line: &[u8]) -> Call {
-    if word(line, 1) == b"soft" {
+    if same(word(line, 1), b"soft") {
         return Call::Reset(0);
     }
-    if word(line, 1) == b"hard" {
+    if same(word(line, 1), b"hard") {
         return Call::Reset(1);
     }
     Call::Malformed

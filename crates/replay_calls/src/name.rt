@@ -1,5 +1,6 @@
 // The calls' names, and the words that each has.
 use replay_text::out::put_all;
+use replay_text::words::same;
 
 #[derive(Clone, Copy)]
 pub enum Name {
@@ -28,28 +29,28 @@ pub enum Name {
 
 // The calls on single bytes.
 fn byte_name(word: &[u8]) -> Name {
-    if word == b"read" {
+    if same(word, b"read") {
         return Name::Read;
     }
-    if word == b"peek" {
+    if same(word, b"peek") {
         return Name::Peek;
     }
-    if word == b"write" {
+    if same(word, b"write") {
         return Name::Write;
     }
-    if word == b"preview" {
+    if same(word, b"preview") {
         return Name::Preview;
     }
-    if word == b"chr-read" {
+    if same(word, b"chr-read") {
         return Name::ChrRead;
     }
-    if word == b"chr-write" {
+    if same(word, b"chr-write") {
         return Name::ChrWrite;
     }
-    if word == b"region-peek" {
+    if same(word, b"region-peek") {
         return Name::RegionPeek;
     }
-    if word == b"region-write" {
+    if same(word, b"region-write") {
         return Name::RegionWrite;
     }
     Name::Unknown
@@ -57,25 +58,25 @@ fn byte_name(word: &[u8]) -> Name {
 
 // The calls on the whole cartridge, and on the battery.
 fn cartridge_name(word: &[u8]) -> Name {
-    if word == b"load" {
+    if same(word, b"load") {
         return Name::Load;
     }
-    if word == b"reset" {
+    if same(word, b"reset") {
         return Name::Reset;
     }
-    if word == b"sync-battery" {
+    if same(word, b"sync-battery") {
         return Name::SyncBattery;
     }
-    if word == b"restore-battery" {
+    if same(word, b"restore-battery") {
         return Name::RestoreBattery;
     }
-    if word == b"sram" {
+    if same(word, b"sram") {
         return Name::Sram;
     }
-    if word == b"image" {
+    if same(word, b"image") {
         return Name::Image;
     }
-    if word == b"arena" {
+    if same(word, b"arena") {
         return Name::Arena;
     }
     Name::Unknown
@@ -83,13 +84,13 @@ fn cartridge_name(word: &[u8]) -> Name {
 
 // The calls on the directory of translated blocks.
 fn block_name(word: &[u8]) -> Name {
-    if word == b"register" {
+    if same(word, b"register") {
         return Name::Register;
     }
-    if word == b"lookup" {
+    if same(word, b"lookup") {
         return Name::Lookup;
     }
-    if word == b"directory" {
+    if same(word, b"directory") {
         return Name::Directory;
     }
     Name::Unknown
@@ -105,10 +106,10 @@ fn other_name(word: &[u8]) -> Name {
 }
 
 pub fn name_of(word: &[u8]) -> Name {
-    if word == b"run" {
+    if same(word, b"run") {
         return Name::Run;
     }
-    if word == b"fill" {
+    if same(word, b"fill") {
         return Name::Fill;
     }
     let n = byte_name(word);
