@@ -19,7 +19,7 @@ use Rattle.memory_bytes.specs.Bytes.{Backed}
 use Rattle.board_state.specs.declared.State.{State}
 use Rattle.board_state.specs.State.{in_range}
 use Rattle.board_state.proofs.Range.{memory-good}
-use Rattle.call_refusals.specs.Refusals.{Check, first_of, unless_refused, state_checks, reset_checks, arena_checks, cpu_checks, fill_checks}
+use Rattle.call_refusals.specs.Refusals.{Check, first_of, unless_refused, state_checks, arena_checks, cpu_checks, fill_checks}
 use Rattle.call_refusals.specs.Refusals.{battery_checks}
 
 -- ---- any list of checks
