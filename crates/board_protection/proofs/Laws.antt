@@ -1,14 +1,12 @@
 -- Write protection as steps of the memory; that the edition without it is the Rust's; and that the other differs from it in the flags of
 -- work RAM alone, where it is as F800 says.
-use Prim.Native.Nat.{ℕ, ◌+◌, ◌*◌, ◌/◌, ◌≤◌, ◌<◌}
-use mathlib.Core.Path.{◌≡◌, refl, ap, ◌∙◌}
-use mathlib.Core.Bool.{Bool, true, false, cond, ◌&&◌, ◌||◌}
-use mathlib.Core.List.{List}
+use Prim.Native.Nat.{ℕ, ◌+◌, ◌/◌, ◌≤◌, ◌<◌}
+use mathlib.Core.Path.{◌≡◌, refl}
+use mathlib.Core.Bool.{Bool, true, false, ◌&&◌, ◌||◌}
 use native.Mathlib.Omega.{arith}
 use lib.Dec.{leb}
 use lib.ListN.{length, get_or}
 use Rattle.memory.specs.declared.Memory.{Memory}
-use Rattle.memory.specs.declared.page.Page.{Page}
 use Rattle.memory.specs.Page.{unmapped}
 use Rattle.memory_map.specs.Windows.{each_page, with_flag, set_writable, set_prg_writable}
 use Rattle.memory_map.proofs.Laws.Memory.{each-other, each_same}

@@ -1,6 +1,6 @@
 -- L19 to L23: the edition in which F800 protects work RAM of a 163. The page tables are the Rust's `update_banks`, and then the flags at
 -- 6000 by parts of 2,048 bytes. In the other edition both definitions are the Rust's.
-use Rattle.std.specs.Prelude.{ℕ, ◌+◌, ◌-◌, ◌/◌, ◌<◌, ◌≡◌, Bool, cond, not, ◌&&◌, ◌||◌, eqb, leb, get_or}
+use Rattle.std.specs.Prelude.{ℕ, ◌+◌, ◌/◌, ◌<◌, ◌≡◌, Bool, cond, not, ◌&&◌, ◌||◌, eqb, leb, get_or}
 use Rattle.memory.specs.declared.Memory.{Memory}
 use Rattle.memory.specs.Memory.{with_prg_pages}
 use Rattle.memory.specs.Page.{unmapped, has_bit}
