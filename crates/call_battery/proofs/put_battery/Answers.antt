@@ -1,0 +1,15 @@
+-- `put_battery` meets its contract: the lent part comes back as the sound RAM.
+use Prim.Native.Nat.{ℕ, ◌+◌, ◌-◌}
+use mathlib.Core.Path.{◌≡◌, subst}
+use lib.ListN.{take, drop}
+use Rattle.sound.proofs.audio.Typed.{typed}
+use Rattle.memory_bytes.specs.Bytes.{overlay}
+use Rattle.memory_bytes.proofs.Laws.Bytes.{overlay-back}
+use mathlib.Core.List.{◌++◌}
+use Rattle.call_battery.proofs.put_battery.Goals as goal
+
+pub returns : goal.returns
+returns c = rw c.put_ram.ensures (subst
+    (λ (n : ℕ). take c.args.at c.args.arena.now ++ (c.args.audio.ram ++ drop (c.args.at + n - c.args.at) (drop c.args.at c.args.arena.now))
+    ≡ overlay c.args.arena.now c.args.at c.args.audio.ram) (typed c.args.audio _ c.well_formed.1.1.0).ram_length
+    (overlay-back c.args.arena.now c.args.audio.ram c.args.at))

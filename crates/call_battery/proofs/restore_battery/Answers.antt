@@ -1,0 +1,23 @@
+-- `restore_battery` meets its contract: refused, and accepted.
+use mathlib.Core.Path.{◌≡◌, sym, ◌∙◌}
+use borrow.Author.Tests.{ne_eqb}
+use Rattle.board_state.proofs.Range.{memory-good}
+use Rattle.call_refusals.specs.Refusals.{first_of, battery_checks}
+use Rattle.call_refusals.proofs.Laws.{battery-good}
+use lib.ListN.{length}
+use Rattle.call_battery.specs.Battery.{restore_state}
+use Rattle.call_battery.proofs.restore_battery.Goals as goal
+
+pub returns-then-q-ne0 : goal.returns-then-q-ne0
+unfolding restore_state
+returns-then-q-ne0 c = rw (← c.battery_refusal-q.ensures, ne_eqb _ _ c.if-q-ne0.true)
+
+pub battery_start-at-requires : goal.battery_start-at-requires
+battery_start-at-requires c = (memory-good _ (battery-good _ _ ((let it : first_of (battery_checks c.args.s (length c.args.arena.now)) ≡ 0 = sym c.battery_refusal-q.ensures ∙ c.if-q-ne0.false in it))).arena.good).ranged.sized
+
+pub get_battery-ram-requires : goal.get_battery-ram-requires
+get_battery-ram-requires c = rw c.battery_start-at.ensures (battery-good _ _ ((let it : first_of (battery_checks c.args.s (length c.args.arena.now)) ≡ 0 = sym c.battery_refusal-q.ensures ∙ c.if-q-ne0.false in it))).inside
+
+pub returns : goal.returns
+unfolding restore_state
+returns c = rw ((let it : first_of (battery_checks c.args.s (length c.args.arena.now)) ≡ 0 = sym c.battery_refusal-q.ensures ∙ c.if-q-ne0.false in it), c.get_battery-ram.ensures, c.battery_start-at.ensures)

@@ -1,0 +1,17 @@
+-- `region_peek` meets its contract: refused, and accepted.
+use mathlib.Core.Path.{sym, ◌∙◌}
+use borrow.Author.Tests.{ne_eqb}
+use Rattle.call_refusals.proofs.Laws.{arena-good, backed}
+use Rattle.call_regions.specs.Regions.{region_read}
+use Rattle.call_regions.proofs.region_peek.Goals as goal
+
+pub returns-then-q-ne0 : goal.returns-then-q-ne0
+unfolding region_read
+returns-then-q-ne0 c = rw (← c.arena_refusal-q.ensures, ne_eqb _ _ c.if-q-ne0.true)
+
+pub region_peek-requires : goal.region_peek-requires
+region_peek-requires c = backed _ _ (arena-good _ _ (sym c.arena_refusal-q.ensures ∙ c.if-q-ne0.false))
+
+pub returns : goal.returns
+unfolding region_read
+returns c = rw (sym c.arena_refusal-q.ensures ∙ c.if-q-ne0.false, c.region_peek.ensures)
