@@ -14,8 +14,7 @@ use Rattle.cut.specs.Counter.{moves, next_counter, rises_from}
 use Rattle.sound.specs.declared.audio.Audio.{Audio}
 use Rattle.sound.specs.Audio.{with_counter as with_updates}
 use Rattle.sound_clock.specs.Clock.{sound_clock, updated, update_channel}
-use Rattle.board_chip.specs.declared.namco163.Regs.{Regs}
-use Rattle.board_chip.specs.Namco163.{is163, with_regs, with_audio, with_counter}
+use Rattle.board_chip.specs.Namco163.{is163, with_regs, with_audio}
 use Rattle.board_chip.specs.Clock.{clock_counter}
 use Rattle.board_state.specs.declared.State.{State}
 use Rattle.board_state.specs.State.{with_chip}

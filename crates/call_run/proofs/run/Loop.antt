@@ -1,21 +1,18 @@
 -- C25: the loop of a run. Its one piece makes as few clocks as are enough, so it gives what the whole run gives; then none is left that
 -- alters anything.
-use Prim.Native.Nat.{ℕ, zero, suc, ◌+◌, ◌-◌, ◌^◌, ◌≤◌, ◌<◌}
-use mathlib.Core.Path.{◌≡◌, refl, sym, ap, ◌∙◌}
-use mathlib.Core.Bool.{Bool, true, false}
-use mathlib.Core.List.{List, []}
+use Prim.Native.Nat.{ℕ, ◌+◌, ◌-◌, ◌^◌, ◌≤◌, ◌<◌}
+use mathlib.Core.Path.{◌≡◌, sym, ap, ◌∙◌}
+use mathlib.Core.Bool.{true, false}
+use mathlib.Core.List.{List}
 use mathlib.Core.Logic.{◌⊎◌, inl, inr}
 use native.Mathlib.Omega.{arith}
 use native.Mathlib.Decide.{ℕ_discrete}
 use borrow.Author.Tests.{eq-eqb, ne_eqb, le-ltb}
-use lib.Dec.{eqb}
 use lib.Ieee.{Float}
 use lib.ListN.{length}
-use Rattle.cut.specs.Calls.{RunGave, Point, start}
 use Rattle.cut.specs.Machine.{ticks}
 use Rattle.cut.specs.Contract.{run_by}
 use Rattle.board_state.specs.declared.State.{State}
-use Rattle.board_state.specs.State.{in_range}
 use Rattle.call_refusals.specs.Refusals.{first_of}
 use Rattle.idle_runs.specs.Idle.{Ends, Least, busy}
 use Rattle.idle_runs.proofs.Busy.{ends_same, busy-stops, busy-least}
@@ -24,7 +21,7 @@ use Rattle.call_run.specs.Clock.{state_clock}
 use Rattle.call_idle.specs.Idle.{idle, ends, counted}
 use Rattle.call_run.specs.Run.{clocks, made, run_limit, run_checks, run_gave, ran_of}
 use Rattle.call_run.proofs.run.Idle.{tests, counted-least}
-use Rattle.call_run.proofs.run.Laws.{RunGood, run-good}
+use Rattle.call_run.proofs.run.Laws.{run-good}
 
 -- ---- where the rest alters nothing
 

@@ -1,0 +1,29 @@
+-- `samples_made` meets its contract: the floor.
+use borrow.Author.Tests.{not-true, not-false}
+use Rattle.board_state.proofs.Range.{counter-small}
+use Rattle.call_run.proofs.run.Laws.{made-floor}
+use Rattle.call_run.proofs.run.samples_made.Goals as goal
+
+pub returns-then-not-is_163 : goal.returns-then-not-is_163
+returns-then-not-is_163 c = rw (
+  made-floor c.args.n c.args.s (counter-small _ c.requires),
+  ← c.is_163.ensures,
+  not-true c.is_163.result
+      c.if-not-is_163.true-raw,
+)
+
+pub returns-then-chip : goal.returns-then-chip
+returns-then-chip c = rw (
+  made-floor c.args.n c.args.s (counter-small _ c.requires),
+  ← c.is_163.ensures,
+  not-false c.is_163.result c.if-not-is_163.false-raw,
+  c.if-chip.true,
+)
+
+pub returns : goal.returns
+returns c = rw (
+  made-floor c.args.n c.args.s (counter-small _ c.requires),
+  ← c.is_163.ensures,
+  not-false c.is_163.result c.if-not-is_163.false-raw,
+  c.if-chip.false,
+)
