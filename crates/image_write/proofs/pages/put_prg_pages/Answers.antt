@@ -1,7 +1,5 @@
 -- `put_prg_pages` meets its contract: eight entries after eight.
-use Prim.Native.Nat.{◌-◌}
-use Rattle.image_write.specs.Sections.{prg_pages_at}
-use Rattle.image_write.proofs.pages.Laws.{PagesWrote, pages-none, next-fit, pages-more, pages-all}
+use Rattle.image_write.proofs.pages.Laws.{pages-none, next-fit, pages-more, pages-all}
 use native.Mathlib.Omega.{arith}
 use borrow.Author.Rules.{rules}
 use Rattle.image_write.proofs.pages.put_prg_pages.Goals as goal

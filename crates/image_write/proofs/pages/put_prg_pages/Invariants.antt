@@ -1,9 +1,7 @@
 -- `put_prg_pages` meets its contract: eight entries after eight.
 use Prim.Native.Nat.{◌-◌}
 use Rattle.image_write.specs.Sections.{prg_pages_at}
-use Rattle.image_write.proofs.pages.Laws.{PagesWrote, pages-none, next-fit, pages-more, pages-all}
-use native.Mathlib.Omega.{arith}
-use borrow.Author.Rules.{rules}
+use Rattle.image_write.proofs.pages.Laws.{PagesWrote}
 use Rattle.image_write.proofs.pages.put_prg_pages.Given as goal
 
 abbrev pub invariant-loop-k : goal.invariant-loop-k

@@ -1,9 +1,8 @@
 -- `flags_word` meets its contract: flag after flag.
 use Rattle.bits.specs.Fields.{pack, bit}
 use mathlib.Core.Path.{◌≡◌, refl, sym, ap, ◌∙◌}
-use mathlib.Core.List.{map}
-use Prim.Native.Nat.{ℕ, ◌+◌, ◌-◌, ◌*◌, ◌^◌, ◌<◌, ◌≤◌}
-use lib.ListN.{length, take, get_or, replicate}
+use Prim.Native.Nat.{ℕ, ◌+◌, ◌*◌}
+use lib.ListN.{get_or}
 use lib.Seq.{take_all}
 use Rattle.image_write.proofs.Parts.{flags-more, doubled, below-12}
 use native.Mathlib.Omega.{arith}

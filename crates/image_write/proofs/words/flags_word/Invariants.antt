@@ -1,13 +1,9 @@
 -- `flags_word` meets its contract: flag after flag.
 use Rattle.bits.specs.Fields.{pack, bit}
-use mathlib.Core.Path.{◌≡◌, refl, sym, ap, ◌∙◌}
+use mathlib.Core.Path.{◌≡◌}
 use mathlib.Core.List.{map}
-use Prim.Native.Nat.{ℕ, ◌+◌, ◌-◌, ◌*◌, ◌^◌, ◌<◌, ◌≤◌}
-use lib.ListN.{length, take, get_or, replicate}
-use lib.Seq.{take_all}
-use Rattle.image_write.proofs.Parts.{flags-more, doubled, below-12}
-use native.Mathlib.Omega.{arith}
-use borrow.Author.Rules.{rules}
+use Prim.Native.Nat.{◌-◌, ◌^◌, ◌<◌, ◌≤◌}
+use lib.ListN.{length, take, replicate}
 use Rattle.image_write.proofs.words.flags_word.Given as goal
 
 abbrev pub invariant-loop-i : goal.invariant-loop-i

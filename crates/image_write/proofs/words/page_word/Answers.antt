@@ -1,7 +1,6 @@
 -- `page_word` meets its contract: the flag stands below the page number.
 use Rattle.bits.specs.Fields.{total, pack}
 use native.Mathlib.Omega.{arith}
-use borrow.Author.Rules.{rules}
 use Rattle.image_write.proofs.words.page_word.Goals as goal
 
 pub returns : goal.returns

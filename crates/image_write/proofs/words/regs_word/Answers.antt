@@ -1,7 +1,6 @@
 -- `regs_word` meets its contract: the fields stand one above the other.
 use Rattle.bits.specs.Fields.{total, pack}
 use native.Mathlib.Omega.{arith}
-use borrow.Author.Rules.{rules}
 use Rattle.image_write.proofs.words.regs_word.Goals as goal
 
 pub returns : goal.returns

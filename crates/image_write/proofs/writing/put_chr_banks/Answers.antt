@@ -1,11 +1,9 @@
 -- `put_chr_banks` meets its contract: bank after bank.
 use mathlib.Core.Path.{◌≡◌, refl}
-use Prim.Native.Nat.{◌-◌, ◌≤◌}
-use lib.ListN.{length, take, get_or, replicate}
+use lib.ListN.{get_or}
 use lib.Seq.{take_all}
 use mir.Val.{Fits}
 use mir.Syntax.{w8}
-use Rattle.bits.specs.Cursor.{Wrote}
 use Rattle.bits.proofs.Fields.{total-replicate}
 use Rattle.bits.proofs.cursor.Laws.{wrote_none, wrote-suc}
 use native.Mathlib.Omega.{arith}

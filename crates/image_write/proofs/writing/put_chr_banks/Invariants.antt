@@ -1,15 +1,8 @@
 -- `put_chr_banks` meets its contract: bank after bank.
-use mathlib.Core.Path.{◌≡◌, refl}
+use mathlib.Core.Path.{◌≡◌}
 use Prim.Native.Nat.{◌-◌, ◌≤◌}
-use lib.ListN.{length, take, get_or, replicate}
-use lib.Seq.{take_all}
-use mir.Val.{Fits}
-use mir.Syntax.{w8}
+use lib.ListN.{length, take, replicate}
 use Rattle.bits.specs.Cursor.{Wrote}
-use Rattle.bits.proofs.Fields.{total-replicate}
-use Rattle.bits.proofs.cursor.Laws.{wrote_none, wrote-suc}
-use native.Mathlib.Omega.{arith}
-use borrow.Author.Rules.{rules}
 use Rattle.image_write.proofs.writing.put_chr_banks.Given as goal
 
 abbrev pub invariant-loop-i : goal.invariant-loop-i

@@ -4,7 +4,7 @@ use mathlib.Core.Path.{◌≡◌, sym, ap, ◌∙◌}
 use mathlib.Core.Bool.{Bool, true}
 use mathlib.Core.List.{List, ◌++◌}
 use native.Mathlib.Omega.{arith}
-use lib.ListN.{length, take, drop, set, length-append, length-drop}
+use lib.ListN.{length, drop, set, length-append, length-drop}
 use lib.Seq.{length-take-le}
 use Rattle.image_write.specs.Image.{image_bytes, image_of}
 use Rattle.image_write.specs.Options.{options_image_bytes, option_set, room_for, Room, short, long}

@@ -1,11 +1,9 @@
 -- `put_levels` meets its contract: channel after channel.
 use mathlib.Core.Path.{◌≡◌, refl}
 use mathlib.Core.List.{map}
-use Prim.Native.Nat.{◌-◌, ◌≤◌}
-use lib.ListN.{length, take, replicate, length-map}
+use lib.ListN.{length-map}
 use lib.Seq.{take_all}
 use Rattle.bits.specs.Fields.{total}
-use Rattle.bits.specs.Cursor.{Wrote}
 use Rattle.bits.proofs.Fields.{total-replicate}
 use Rattle.bits.proofs.Lists.{get_d_map}
 use Rattle.bits.proofs.cursor.Laws.{wrote_none, wrote-suc}

@@ -1,21 +1,11 @@
 -- `put_levels` meets its contract: channel after channel.
-use mathlib.Core.Path.{◌≡◌, refl}
+use mathlib.Core.Path.{◌≡◌}
 use mathlib.Core.List.{map}
 use Prim.Native.Nat.{◌-◌, ◌≤◌}
-use lib.ListN.{length, take, replicate, length-map}
-use lib.Seq.{take_all}
-use Rattle.bits.specs.Fields.{total}
+use lib.ListN.{length, take, replicate}
 use Rattle.bits.specs.Cursor.{Wrote}
-use Rattle.bits.proofs.Fields.{total-replicate}
-use Rattle.bits.proofs.Lists.{get_d_map}
-use Rattle.bits.proofs.cursor.Laws.{wrote_none, wrote-suc}
-use lib.Ieee.{nan}
 use Rattle.image_write.specs.Image.{byte_at, level_num}
-use Rattle.image_write.specs.Sections.{levels_at, out_at}
-use Rattle.image_write.proofs.Levels.{level_out, level-small}
-use Rattle.image_write.proofs.Parts.{wrote-to, byte-held}
-use native.Mathlib.Omega.{arith}
-use borrow.Author.Rules.{rules}
+use Rattle.image_write.specs.Sections.{levels_at}
 use Rattle.image_write.proofs.writing.put_levels.Given as goal
 
 abbrev pub invariant-loop-i : goal.invariant-loop-i

@@ -3,7 +3,6 @@ use Rattle.bits.specs.Fields.{total}
 use Rattle.image_write.specs.Sections.{out_at, phases_at}
 use Rattle.image_write.proofs.Parts.{wrote-to, byte-held}
 use native.Mathlib.Omega.{arith}
-use borrow.Author.Rules.{rules}
 use Rattle.image_write.proofs.writing.put_out.Goals as goal
 
 pub float_to_bits-bits : goal.float_to_bits-bits
