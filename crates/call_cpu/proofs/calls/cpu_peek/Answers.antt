@@ -1,0 +1,20 @@
+-- `cpu_peek` meets its contract: refused, and accepted.
+use mathlib.Core.Path.{◌≡◌, sym, ◌∙◌}
+use borrow.Author.Tests.{ne_eqb}
+use Rattle.board_state.proofs.Range.{port-good}
+use Rattle.call_refusals.specs.Refusals.{first_of, cpu_checks}
+use Rattle.call_refusals.proofs.Laws.{Arena, cpu-good, backed}
+use Rattle.call_cpu.specs.Calls.{cpu_peek}
+use lib.ListN.{length}
+use Rattle.call_cpu.proofs.calls.cpu_peek.Goals as goal
+
+pub returns-then-q-ne0 : goal.returns-then-q-ne0
+unfolding cpu_peek
+returns-then-q-ne0 c = rw (← c.cpu_refusal-q.ensures, ne_eqb _ _ c.if-q-ne0.true)
+
+pub cpu_byte-byte-requires : goal.cpu_byte-byte-requires
+cpu_byte-byte-requires c = let g = (let it : Arena c.args.s (length c.args.arena.now) = (cpu-good _ _ c.args.addr ((let it : first_of (cpu_checks c.args.s (length c.args.arena.now) c.args.addr) ≡ 0 = sym c.cpu_refusal-q.ensures ∙ c.if-q-ne0.false in it))).0 in it) in (port-good _ g.good, backed _ _ g)
+
+pub returns : goal.returns
+unfolding cpu_peek
+returns c = rw ((let it : first_of (cpu_checks c.args.s (length c.args.arena.now) c.args.addr) ≡ 0 = sym c.cpu_refusal-q.ensures ∙ c.if-q-ne0.false in it), c.cpu_byte-byte.ensures)

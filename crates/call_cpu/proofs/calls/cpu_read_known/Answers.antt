@@ -1,0 +1,23 @@
+-- `cpu_read_known` meets its contract: refused, and accepted.
+use mathlib.Core.Path.{◌≡◌, sym, ◌∙◌}
+use borrow.Author.Tests.{ne_eqb}
+use Rattle.board_state.proofs.Range.{port-good}
+use Rattle.call_refusals.specs.Refusals.{first_of, cpu_checks}
+use Rattle.call_refusals.proofs.Laws.{Arena, cpu-good, backed}
+use Rattle.call_cpu.specs.Calls.{cpu_read}
+use lib.ListN.{length}
+use Rattle.call_cpu.proofs.calls.cpu_read_known.Goals as goal
+
+pub returns-then-q-ne0 : goal.returns-then-q-ne0
+unfolding cpu_read
+returns-then-q-ne0 c = rw (← c.cpu_refusal_known-q.ensures, ne_eqb _ _ c.if-q-ne0.true)
+
+pub cpu_byte-byte-requires : goal.cpu_byte-byte-requires
+cpu_byte-byte-requires c = let g = (let it : Arena c.args.s (length c.args.arena.now) = (cpu-good _ _ c.args.addr ((let it : first_of (cpu_checks c.args.s (length c.args.arena.now) c.args.addr) ≡ 0 = sym c.cpu_refusal_known-q.ensures ∙ c.if-q-ne0.false in it))).0 in it) in (port-good _ g.good, backed _ _ g)
+
+pub after_read-next-requires : goal.after_read-next-requires
+after_read-next-requires c = port-good _ ((let it : Arena c.args.s (length c.args.arena.now) = (cpu-good _ _ c.args.addr ((let it : first_of (cpu_checks c.args.s (length c.args.arena.now) c.args.addr) ≡ 0 = sym c.cpu_refusal_known-q.ensures ∙ c.if-q-ne0.false in it))).0 in it)).good
+
+pub returns : goal.returns
+unfolding cpu_read
+returns c = rw ((let it : first_of (cpu_checks c.args.s (length c.args.arena.now) c.args.addr) ≡ 0 = sym c.cpu_refusal_known-q.ensures ∙ c.if-q-ne0.false in it), c.cpu_byte-byte.ensures, c.after_read-next.ensures)
