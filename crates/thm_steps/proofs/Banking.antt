@@ -83,7 +83,7 @@ slot-pages l used false = refl
 pub ranged-steps : Steps Ranged
 ranged-steps =
     record {
-      slot = λ m addr bank ciram q. ranged-map-chr m q addr chr_window (pos bank) (slot_src ciram) refl (slot-pages _ _ ciram);
+      slot = λ m addr bank ciram q. ranged-map-chr m q addr chr_window (pos bank) (slot_src ciram) refl (slot-pages m.layout m.battery_ext_len ciram);
       mirroring = λ m k q. ranged-mirroring m q k;
       rom = λ m addr b lo hi q. ranged-map-prg m q addr prg_window b PrgRom refl refl;
       ram = λ m w q. ranged-set-writable _ (ranged-map-prg m q 0x6000 prg_window (pos 0) PrgRam refl refl) 0x6000 prg_window w;

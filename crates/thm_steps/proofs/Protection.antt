@@ -1,6 +1,6 @@
 -- L20: mapping in either edition keeps a memory in range (R9), the layout, the used length and PRG entries 0..23. Assumes nothing.
-use Prim.Native.Nat.{ℕ, ◌/◌, ◌≤◌, ◌<◌}
-use mathlib.Core.Path.{◌≡◌, refl}
+use Prim.Native.Nat.{ℕ, ◌/◌, ◌≤◌}
+use mathlib.Core.Path.{refl}
 use mathlib.Core.Bool.{Bool, ◌&&◌}
 use native.Mathlib.Omega.{arith}
 use Rattle.limits.proofs.Each.{cond-holds}
