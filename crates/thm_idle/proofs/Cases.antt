@@ -4,7 +4,6 @@ use mathlib.Core.Path.{◌≡◌, refl, ◌∙◌}
 use mathlib.Core.Bool.{true, false, cond}
 use native.Mathlib.Omega.{arith}
 use Rattle.limits.specs.Limits.{update_most}
-use Rattle.cut.specs.Contract.{last_or}
 use Rattle.cut.specs.Counter.{moves, next_counter, rises_from}
 use Rattle.cut.specs.Machine.{tick, ticks}
 use Rattle.idle_runs.specs.Idle.{busy}
@@ -18,7 +17,7 @@ use Rattle.board_chip.specs.Clock.{clock_counter}
 use Rattle.board_state.specs.None.{no_state}
 use Rattle.call_run.specs.Clock.{sound_sample, chip_clock, state_clock, counter_rise}
 use Rattle.call_idle.specs.Idle.{stepping, idle, left, counted}
-use Rattle.call_run.specs.Run.{clocks, made, run_limit}
+use Rattle.call_run.specs.Run.{made, run_limit}
 use Rattle.call_run.proofs.clock.Laws.{stopped, goes-up, ends}
 use Rattle.call_run.proofs.run.Idle.{busy-closed}
 use Rattle.call_run.proofs.run.Laws.{made-floor, rise-is}

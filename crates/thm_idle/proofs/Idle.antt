@@ -1,20 +1,18 @@
 -- C24 to C26 on this board: which states are idle, and how few clocks of a run are enough, counted clock by clock and by what the run comes
 -- to. The one hypothesis is that the counter has 16 bits, as its type says.
-use Prim.Native.Nat.{ℕ, ◌+◌, ◌*◌, ◌%◌, ◌^◌, ◌≤◌, ◌<◌}
-use mathlib.Core.Path.{◌≡◌, refl, sym, ap, ◌∙◌}
+use Prim.Native.Nat.{ℕ, ◌+◌, ◌*◌, ◌^◌, ◌≤◌, ◌<◌}
+use mathlib.Core.Path.{◌≡◌, refl, ap, ◌∙◌}
 use mathlib.Core.Bool.{Bool, true, false, not, ◌&&◌}
 use mathlib.Core.Logic.{◌↔◌}
-use mathlib.Core.Option.{none}
 use native.Mathlib.Decide.{ℕ_discrete}
 use native.Mathlib.Omega.{arith}
 use borrow.Author.Tests.{eq-eqb, ne_eqb}
-use lib.Ieee.{Float}
 use lib.ListN.{length}
-use Rattle.cut.specs.Machine.{Clocked, of_option}
+use Rattle.cut.specs.Machine.{of_option}
 use Rattle.cut.specs.Counter.{moves, next_counter}
-use Rattle.idle_runs.specs.Idle.{Still, Ends, Least, LeastNet}
+use Rattle.idle_runs.specs.Idle.{Still, Least, LeastNet}
 use Rattle.idle_runs.proofs.Busy.{least-one}
-use Rattle.idle_runs.proofs.Net.{Rank, busy-net}
+use Rattle.idle_runs.proofs.Net.{busy-net}
 use Rattle.sound.specs.declared.audio.Audio.{Audio}
 use Rattle.sound_clock.specs.Clock.{sound_clock, updated, update_channel}
 use Rattle.board_chip.specs.Namco163.{is163}
@@ -22,7 +20,7 @@ use Rattle.board_chip.specs.Clock.{clock_counter}
 use Rattle.board_state.specs.declared.State.{State}
 use Rattle.call_run.specs.Clock.{sound_sample, state_clock}
 use Rattle.call_idle.specs.Idle.{stepping, idle, counted}
-use Rattle.call_run.proofs.run.Idle.{moves-says, next-moved, next-stopped, clock_by, clock-is, next, still-sound, tests, busy-closed, counted-least}
+use Rattle.call_run.proofs.run.Idle.{moves-says, next-moved, next-stopped, clock-is, next, still-sound, tests, busy-closed, counted-least}
 
 -- R8: what the type says
 abbrev pub Word : State → Type 0
