@@ -1,0 +1,14 @@
+-- `get_chr_pages` meets its contract: eight entries after eight.
+use mathlib.Core.Path.{refl}
+use Prim.Native.Nat.{◌-◌}
+use Rattle.image_write.specs.Sections.{chr_pages_at}
+use Rattle.image_read.proofs.pages.Laws.{PagesRead, pages-none, pages-more, pages-done}
+use borrow.Author.Rules.{rules}
+use native.Mathlib.Omega.{arith}
+use Rattle.image_read.proofs.pages.get_chr_pages.Given as goal
+
+abbrev pub invariant-loop-k : goal.invariant-loop-k
+invariant-loop-k l = PagesRead 2 chr_pages_at l.img l.pages l.k
+
+abbrev pub decreases-loop-k : goal.decreases-loop-k
+decreases-loop-k l = 2 - l.k

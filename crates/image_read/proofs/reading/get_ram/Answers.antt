@@ -1,0 +1,14 @@
+-- `get_ram` meets its contract.
+use mathlib.Core.Path.{refl, sym}
+use Prim.Native.Nat.{◌-◌}
+use lib.ListN.{replicate}
+use Rattle.bits.specs.Fields.{total}
+use Rattle.image_write.specs.Sections.{ram_at, port_at}
+use Rattle.image_read.proofs.Sections.{section-is}
+use native.Mathlib.Omega.{arith}
+use borrow.Author.Rules.{rules}
+use Rattle.image_read.proofs.reading.get_ram.Goals as goal
+
+pub returns : goal.returns
+unfolding total
+returns c = sym (section-is c.args.img.now ram_at (port_at - ram_at) (omega arith) _ (replicate 128 8) _ refl c.get_bytes.ensures)

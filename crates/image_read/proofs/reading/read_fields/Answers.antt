@@ -1,0 +1,6 @@
+-- `read_fields` meets its contract.
+use borrow.Author.Rules.{rules}
+use Rattle.image_read.proofs.reading.read_fields.Goals as goal
+
+pub returns : goal.returns
+returns c = rw (c.chip_of-chip.ensures, c.read_sound-audio.ensures, c.read_memory-m.ensures)

@@ -1,0 +1,6 @@
+-- `refused` meets its contract.
+use borrow.Author.Rules.{rules}
+use Rattle.image_read.proofs.reading.refused.Goals as goal
+
+pub returns : goal.returns
+returns c = rw c.no_state-none.ensures

@@ -1,0 +1,8 @@
+-- `flags_of` meets its contract: the last flag is the word's lowest bit.
+use Rattle.bits.specs.Fields.{total, unpack}
+use native.Mathlib.Nat.{div-one}
+use Rattle.image_read.proofs.words.flags_of.Goals as goal
+
+pub returns : goal.returns
+unfolding unpack total
+returns c = rw (div-one c.args.w)
