@@ -2,7 +2,6 @@
 use mathlib.Core.Path.{refl, ◌∙◌}
 use mathlib.Core.List.{[], ◌∷◌}
 use Rattle.image_read.proofs.pages.Laws.{eight-pages}
-use borrow.Author.Rules.{rules}
 use Rattle.image_read.proofs.pages.eight_of.Goals as goal
 
 pub returns : goal.returns

@@ -1,7 +1,6 @@
 -- `eight_words` meets its contract: 11 bytes as words of 4, 4 and 3.
 use Rattle.image_read.proofs.pages.Laws.{eight-read}
 use native.Mathlib.Omega.{arith}
-use borrow.Author.Rules.{rules}
 use Rattle.image_read.proofs.pages.eight_words.Goals as goal
 
 pub returns : goal.returns

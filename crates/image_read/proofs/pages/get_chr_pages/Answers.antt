@@ -1,9 +1,6 @@
 -- `get_chr_pages` meets its contract: eight entries after eight.
 use mathlib.Core.Path.{refl}
-use Prim.Native.Nat.{◌-◌}
-use Rattle.image_write.specs.Sections.{chr_pages_at}
-use Rattle.image_read.proofs.pages.Laws.{PagesRead, pages-none, pages-more, pages-done}
-use borrow.Author.Rules.{rules}
+use Rattle.image_read.proofs.pages.Laws.{pages-none, pages-more, pages-done}
 use native.Mathlib.Omega.{arith}
 use Rattle.image_read.proofs.pages.get_chr_pages.Goals as goal
 

@@ -1,10 +1,7 @@
 -- `get_prg_pages` meets its contract: eight entries after eight.
-use mathlib.Core.Path.{refl}
 use Prim.Native.Nat.{◌-◌}
 use Rattle.image_write.specs.Sections.{prg_pages_at}
-use Rattle.image_read.proofs.pages.Laws.{PagesRead, pages-none, pages-more, pages-done}
-use borrow.Author.Rules.{rules}
-use native.Mathlib.Omega.{arith}
+use Rattle.image_read.proofs.pages.Laws.{PagesRead}
 use Rattle.image_read.proofs.pages.get_prg_pages.Given as goal
 
 abbrev pub invariant-loop-k : goal.invariant-loop-k

@@ -1,7 +1,6 @@
 -- `page_of` meets its contract.
 use Prim.Native.Nat.{◌/◌}
 use native.Mathlib.Nat.{mul_comm}
-use borrow.Author.Rules.{rules}
 use Rattle.image_read.proofs.pages.page_of.Goals as goal
 
 pub returns : goal.returns

@@ -1,7 +1,6 @@
 -- `chip_of` meets its contract: the last field of a word is its lowest bits.
 use Rattle.bits.specs.Fields.{total, unpack}
 use native.Mathlib.Nat.{div-one}
-use borrow.Author.Rules.{rules}
 use Rattle.image_read.proofs.reading.chip_of.Goals as goal
 
 pub returns : goal.returns

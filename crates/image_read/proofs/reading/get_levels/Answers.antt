@@ -9,7 +9,6 @@ use Rattle.bits.proofs.Fields.{fit-below}
 use Rattle.image_write.specs.Sections.{levels_at, out_at}
 use Rattle.image_read.proofs.Sections.{section-is}
 use native.Mathlib.Omega.{arith}
-use borrow.Author.Rules.{rules}
 use Rattle.image_read.proofs.reading.get_levels.Goals as goal
 
 pub levels_of-requires : goal.levels_of-requires

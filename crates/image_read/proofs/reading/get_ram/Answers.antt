@@ -6,7 +6,6 @@ use Rattle.bits.specs.Fields.{total}
 use Rattle.image_write.specs.Sections.{ram_at, port_at}
 use Rattle.image_read.proofs.Sections.{section-is}
 use native.Mathlib.Omega.{arith}
-use borrow.Author.Rules.{rules}
 use Rattle.image_read.proofs.reading.get_ram.Goals as goal
 
 pub returns : goal.returns

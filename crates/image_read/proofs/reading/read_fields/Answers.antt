@@ -1,5 +1,4 @@
 -- `read_fields` meets its contract.
-use borrow.Author.Rules.{rules}
 use Rattle.image_read.proofs.reading.read_fields.Goals as goal
 
 pub returns : goal.returns

@@ -3,12 +3,11 @@ use Prim.Native.Nat.{ℕ}
 use mathlib.Core.Path.{◌≡◌, sym, ap, ap₂, ◌∙◌}
 use mathlib.Core.List.{List}
 use native.Mathlib.Omega.{arith}
-use borrow.Author.Rules.{rules}
 use lib.ListN.{length, take, get_or-eq_default}
 use lib.Seq.{take-length, length-take-le}
 use Rattle.image_write.specs.Image.{image_bytes}
 use Rattle.image_write.proofs.writing.Laws.{short-room, long-room, no_room}
-use Rattle.image_read.specs.Reading.{read_image, read_body, body_in}
+use Rattle.image_read.specs.Reading.{read_image, read_body}
 use Rattle.image_read.proofs.Accepted.{refused-length, read_is}
 use Rattle.image_read.proofs.reading.read_image.Goals as goal
 

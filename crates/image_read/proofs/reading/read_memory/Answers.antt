@@ -10,7 +10,6 @@ use Rattle.image_write.specs.Sections.{layout_at}
 use Rattle.image_read.specs.Sections.{memory_at}
 use Rattle.image_read.proofs.Fields.{layout-at}
 use native.Mathlib.Omega.{arith}
-use borrow.Author.Rules.{rules}
 use Rattle.image_read.proofs.reading.read_memory.Goals as goal
 
 pub returns : goal.returns

@@ -8,7 +8,6 @@ use Rattle.image_read.specs.Sections.{sound_at}
 use Rattle.image_read.proofs.Fields.{port-at}
 use Rattle.image_read.proofs.Out.{from-bits-ok}
 use native.Mathlib.Omega.{arith}
-use borrow.Author.Rules.{rules}
 use Rattle.image_read.proofs.reading.read_sound.Goals as goal
 
 pub float_from_bits-out : goal.float_from_bits-out

@@ -1,6 +1,5 @@
 -- `board_numbered` meets its contract.
 use Rattle.image_read.proofs.Fields.{board-else}
-use borrow.Author.Rules.{rules}
 use Rattle.image_read.proofs.words.board_numbered.Goals as goal
 
 pub returns : goal.returns

@@ -1,7 +1,6 @@
 -- `prg_banks_of` meets its contract: the last bank is the word's lowest bits.
 use Rattle.bits.specs.Fields.{total, unpack}
 use native.Mathlib.Nat.{div-one}
-use borrow.Author.Rules.{rules}
 use Rattle.image_read.proofs.words.prg_banks_of.Goals as goal
 
 pub returns : goal.returns

@@ -1,7 +1,6 @@
 -- `regs_of` meets its contract.
 use mathlib.Core.Path.{refl}
 use Rattle.bits.specs.Fields.{total, unpack}
-use borrow.Author.Rules.{rules}
 use Rattle.image_read.proofs.words.regs_of.Goals as goal
 
 pub returns : goal.returns
