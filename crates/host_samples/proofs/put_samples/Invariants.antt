@@ -1,0 +1,17 @@
+-- `put_samples` meets its contract, sample by sample.
+use Prim.Native.Nat.{◌*◌, ◌-◌, ◌≤◌}
+use mathlib.Core.Path.{◌≡◌, ap, ◌∙◌}
+use mathlib.Core.List.{◌++◌}
+use lib.ListN.{length, take, drop}
+use Rattle.bits.specs.Fields.{each}
+use Rattle.host_samples.specs.Samples.{sample_bytes}
+use Rattle.host_samples.proofs.Laws.{put-none, put-length, put-more}
+use native.Mathlib.Omega.{arith}
+use borrow.Author.Rules.{rules}
+use Rattle.host_samples.proofs.put_samples.Given as goal
+
+abbrev pub invariant-loop-j : goal.invariant-loop-j
+invariant-loop-j l = (l.j ≤ l.k) × (l.bytes ≡ each sample_bytes (take l.j l.samples) ++ drop (4 * l.j) l.initial.bytes)
+
+abbrev pub decreases-loop-j : goal.decreases-loop-j
+decreases-loop-j l = l.k - l.j
