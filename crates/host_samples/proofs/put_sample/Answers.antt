@@ -4,7 +4,6 @@ use mathlib.Core.Path.{◌≡◌}
 use lib.ListN.{length-set}
 use Rattle.host_samples.proofs.Laws.{four}
 use native.Mathlib.Omega.{arith}
-use borrow.Author.Rules.{rules}
 use Rattle.host_samples.proofs.put_sample.Goals as goal
 
 pub returns : goal.returns

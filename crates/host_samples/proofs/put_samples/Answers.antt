@@ -1,13 +1,8 @@
 -- `put_samples` meets its contract, sample by sample.
-use Prim.Native.Nat.{◌*◌, ◌-◌, ◌≤◌}
 use mathlib.Core.Path.{◌≡◌, ap, ◌∙◌}
-use mathlib.Core.List.{◌++◌}
-use lib.ListN.{length, take, drop}
-use Rattle.bits.specs.Fields.{each}
-use Rattle.host_samples.specs.Samples.{sample_bytes}
+use lib.ListN.{length}
 use Rattle.host_samples.proofs.Laws.{put-none, put-length, put-more}
 use native.Mathlib.Omega.{arith}
-use borrow.Author.Rules.{rules}
 use Rattle.host_samples.proofs.put_samples.Goals as goal
 
 pub loop-j-init : goal.loop-j-init

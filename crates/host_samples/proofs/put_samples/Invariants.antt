@@ -1,13 +1,10 @@
 -- `put_samples` meets its contract, sample by sample.
 use Prim.Native.Nat.{◌*◌, ◌-◌, ◌≤◌}
-use mathlib.Core.Path.{◌≡◌, ap, ◌∙◌}
+use mathlib.Core.Path.{◌≡◌}
 use mathlib.Core.List.{◌++◌}
-use lib.ListN.{length, take, drop}
+use lib.ListN.{take, drop}
 use Rattle.bits.specs.Fields.{each}
 use Rattle.host_samples.specs.Samples.{sample_bytes}
-use Rattle.host_samples.proofs.Laws.{put-none, put-length, put-more}
-use native.Mathlib.Omega.{arith}
-use borrow.Author.Rules.{rules}
 use Rattle.host_samples.proofs.put_samples.Given as goal
 
 abbrev pub invariant-loop-j : goal.invariant-loop-j

@@ -5,7 +5,6 @@ use mathlib.Core.List.{List, ◌++◌}
 use lib.Ieee.{Float}
 use lib.ListN.{length, take, drop}
 use lib.Seq.{length-take-le}
-use borrow.Author.Rules.{rules}
 use Rattle.cut.specs.Contract.{run_by}
 use Rattle.board_state.proofs.Range.{known-passes}
 use Rattle.call_refusals.specs.Refusals.{first_of}
