@@ -3,7 +3,6 @@ use Prim.Native.Nat.{ℕ, ◌<◌}
 use mathlib.Core.Path.{◌≡◌, refl, ap, ◌∙◌}
 use mathlib.Core.Bool.{Bool, true, false}
 use mathlib.Core.Logic.{◌⊎◌, inl, inr}
-use lib.Count.{count_trailing_zeros, ones}
 use lib.Ieee.{is_nan, to_bits, of_bits, of_fields, of_int, round, units, odd, size, span, climb, add, sum, mul, div}
 use Rattle.limits.specs.Every.{every}
 use Rattle.memory.specs.Layout.{within_limits, layout_of, arena_order, pages_before, pages_of_all, first_page, arena_pages, arena_len, region_of}
@@ -35,7 +34,7 @@ use Rattle.board_state.specs.State.{chip_ok, in_range}
 use Rattle.call_refusals.specs.Refusals.{first_of}
 use Rattle.call_cpu.specs.Calls.{write_register, cpu_write}
 use Rattle.call_load.specs.Cartridge.{memory_at_load, fresh_state, load_answer}
-use Rattle.call_run.specs.Clock.{sound_sample, chip_clock, state_clock, counter_run, counter_rise}
+use Rattle.call_run.specs.Clock.{sound_sample, chip_clock, state_clock, counter_run}
 use Rattle.call_run.specs.Run.{clocks, made, run_gave}
 use Rattle.call_run.proofs.clock.Laws.{low-stops, top-stops, stopped}
 use Rattle.call_run.proofs.run.Laws.{sounds-state, silent-state}
