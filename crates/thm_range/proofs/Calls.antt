@@ -12,7 +12,6 @@ use lib.Dec.{eqb}
 use lib.Ieee.{Float}
 use lib.ListN.{length, length-replicate, length-drop, take, drop}
 use lib.Seq.{length-take-le, get_or-drop}
-use Rattle.cut.specs.Calls.{start}
 use Rattle.cut.specs.Machine.{Answered, plainly, ticks}
 use Rattle.cut.specs.Contract.{run_by}
 use Rattle.cut.proofs.Machine.{state-more}

@@ -1,18 +1,16 @@
 -- N0, both ways: checks whose numbers rise are decided. A call is accepted exactly where none of its conditions holds, and refused by a
 -- number exactly where that number's condition is the first that holds. Assumes nothing.
-use Prim.Native.Nat.{ℕ, ◌≤◌, ◌<◌}
+use Prim.Native.Nat.{ℕ, ◌<◌}
 use mathlib.Core.Path.{◌≡◌, refl}
 use mathlib.Core.Bool.{Bool, true, false, cond}
 use mathlib.Core.List.{List, [], ◌∷◌, ◌++◌}
 use mathlib.Core.Logic.{◌⊎◌, inl, inr, ◌↔◌}
 use native.Mathlib.Omega.{arith}
-use borrow.Author.Tests.{eq-eqb, ne_eqb, le-ltb}
+use borrow.Author.Tests.{eq-eqb, ne_eqb}
 use Rattle.memory.specs.declared.layout.MemoryLayout.{MemoryLayout}
 use Rattle.memory.specs.declared.layout.Src.{Src}
 use Rattle.memory.specs.Layout.{layout_of, arena_len}
-use Rattle.memory.specs.Memory.{region_in}
 use Rattle.board_state.specs.declared.State.{State}
-use Rattle.board_state.specs.State.{in_range}
 use Rattle.call_refusals.specs.Refusals.{Check, first_of, state_checks, reset_checks, arena_checks, cpu_checks, fill_checks, battery_checks}
 use Rattle.call_refusals.specs.Refusals.{load_checks}
 use Rattle.call_load.specs.Cartridge.{LoadFits}

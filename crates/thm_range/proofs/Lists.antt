@@ -9,7 +9,7 @@ use native.Mathlib.Omega.{arith}
 use borrow.Author.Tests.{eq-eqb}
 use lib.Ieee.{Float}
 use lib.ListN.{length}
-use Rattle.cut.specs.Calls.{Call, Gave, Reply, refused, answered, RunGave, start}
+use Rattle.cut.specs.Calls.{Call, Gave, refused, start}
 use Rattle.cut.specs.Contract.{run_by}
 use Rattle.cut.specs.Machine.{Answered, plainly}
 use Rattle.cut.specs.Demand3.{observed}
@@ -22,7 +22,7 @@ use Rattle.call_run.specs.Run.{clocks, run_checks, run_gave}
 use Rattle.thm_machine.specs.Calls.{Held, Other, cpu_read, cpu_peek, cpu_write, chr_read, chr_write, fill, region_peek, region_write, sram, reset}
 use Rattle.thm_machine.specs.Calls.{sync_battery, restore_battery, write_image, Answer, CallTyped}
 use Rattle.thm_machine.specs.Paper.{checks, answers}
-use Rattle.thm_machine.specs.Board.{other_gives, run_gives, board}
+use Rattle.thm_machine.specs.Board.{run_gives, board}
 use Rattle.thm_machine.specs.Start.{Loaded, loaded}
 use Rattle.thm_machine.proofs.Keeps.{keeps-other}
 use Rattle.thm_range.specs.Fit.{Fit}

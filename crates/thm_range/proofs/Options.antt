@@ -19,10 +19,10 @@ use Rattle.call_refusals.specs.Refusals.{first_of}
 use Rattle.call_run.specs.Clock.{state_clock}
 use Rattle.call_run.specs.Run.{clocks, run_checks, run_gave}
 use Rattle.thm_machine.specs.Calls.{Held, Other, cpu_read, cpu_peek, cpu_write, chr_read, chr_write, fill, region_peek, region_write, sram, reset}
-use Rattle.thm_machine.specs.Calls.{sync_battery, restore_battery, write_image, Answer}
+use Rattle.thm_machine.specs.Calls.{sync_battery, restore_battery, write_image}
 use Rattle.thm_machine.specs.Paper.{checks, answers}
 use Rattle.thm_machine.specs.Board.{other_gives, run_gives, board}
-use Rattle.thm_machine.specs.Start.{Loaded, loaded, zeroed}
+use Rattle.thm_machine.specs.Start.{Loaded, loaded}
 use Rattle.thm_machine.proofs.Keeps.{keeps-other}
 use Rattle.thm_machine.proofs.Start.{load-starts}
 

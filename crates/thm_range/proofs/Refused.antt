@@ -5,7 +5,7 @@ use mathlib.Core.Path.{◌≡◌, refl}
 use mathlib.Core.Bool.{Bool}
 use mathlib.Core.List.{List}
 use lib.ListN.{length}
-use Rattle.cut.specs.Calls.{Gave, refused, answered}
+use Rattle.cut.specs.Calls.{refused, answered}
 use Rattle.cut.specs.Machine.{Answered, plainly}
 use Rattle.memory.specs.declared.layout.MemoryLayout.{MemoryLayout}
 use Rattle.board_state.specs.declared.Options.{Options}
