@@ -8,7 +8,7 @@ use native.Mathlib.Omega.{arith}
 use borrow.Author.Tests.{leb-true, ltb-true}
 use lib.Dec.{leb, ltb}
 use lib.Ieee.{Float}
-use Rattle.cut.specs.Calls.{Call, other, Gave, from, noted}
+use Rattle.cut.specs.Calls.{Call, other, Gave, noted}
 use Rattle.limits.proofs.Every.{and_left, and_right}
 use Rattle.board_chip.specs.declared.namco163.Board.{Board}
 use Rattle.board_chip.specs.declared.namco163.Board.TheVariants.{Namco163 as Is163, Namco175, Namco340}
@@ -24,7 +24,7 @@ use Rattle.call_cpu.specs.Calls.{write_register}
 use Rattle.call_load.specs.Cartridge.{fresh_state}
 use Rattle.thm_machine.specs.Calls.{Held, Other, cpu_write, reset, Answer, ArgTyped}
 use Rattle.thm_machine.specs.Paper.{checks, answers}
-use Rattle.thm_machine.specs.Board.{other_gives, board}
+use Rattle.thm_machine.specs.Board.{other_gives}
 use Rattle.thm_machine.specs.Start.{Loaded, loaded}
 use Rattle.thm_machine.proofs.Keeps.{keeps-other}
 use Rattle.thm_machine.proofs.Start.{load-starts}

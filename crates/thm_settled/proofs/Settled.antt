@@ -2,7 +2,7 @@
 -- detection step, the flag's step and each accepted reset keep it: no other step touches the three.
 use Prim.Native.Nat.{ℕ, zero, suc}
 use mathlib.Core.Path.{◌≡◌, refl, sym, ap, ◌∙◌}
-use mathlib.Core.Bool.{Bool, true, false, not}
+use mathlib.Core.Bool.{Bool, true, false}
 use mathlib.Core.List.{List, [], ◌∷◌}
 use lib.Dec.{ltb}
 use lib.Ieee.{Float}
@@ -39,7 +39,7 @@ use Rattle.thm_machine.specs.Start.{Loaded, loaded}
 use Rattle.thm_machine.proofs.Keeps.{keeps-other}
 use Rattle.thm_machine.proofs.Start.{load-starts}
 use Rattle.thm_range.proofs.Calls.{by_answer}
-use Rattle.thm_settled.specs.Settled.{type_of, detects, written, Settled, NoReset, after, StaysSettled, StaysDetecting, StaysFixed}
+use Rattle.thm_settled.specs.Settled.{type_of, detects, NoReset, after, StaysSettled, StaysDetecting, StaysFixed}
 use Rattle.thm_settled.specs.Settled.{SettledFromLoad, TypeOfLoad}
 
 -- ---- what a list keeps
