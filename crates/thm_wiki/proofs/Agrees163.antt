@@ -34,7 +34,6 @@ use Rattle.thm_machine.proofs.Start.{load-starts}
 use Rattle.thm_range.proofs.Calls.{load_fits}
 use Rattle.thm_range.proofs.Lists.{always-fit}
 use Rattle.thm_wiki.specs.Registers.{WikiRegs, wiki_bit, wiki_e800, wiki_shows, wiki_unprotected}
-use Rattle.thm_wiki.specs.Machine.{cycle}
 use Rattle.thm_wiki.specs.Notes.{Noted, Steady, inside, note, start}
 use Rattle.thm_wiki.specs.Shown.{Mapped, slot_shows, entry_of, prg_entry, ram_entry, ram_writable}
 use Rattle.thm_wiki.specs.Lists.{beside, Plain}

@@ -1,6 +1,6 @@
 -- L24: a 163 that does not detect and whose F800 protects has the wiki's flags after every list of calls, resets and refused calls among
 -- them, but for the time from a hard reset to the next write to 8000..FFFF. Assumes nothing.
-use Prim.Native.Nat.{ℕ, zero, suc, ◌+◌, ◌/◌, ◌≤◌, ◌<◌}
+use Prim.Native.Nat.{ℕ, zero, suc, ◌+◌, ◌/◌, ◌<◌}
 use mathlib.Core.Path.{◌≡◌, refl, sym, ap, subst, ◌∙◌}
 use mathlib.Core.Bool.{Bool, true, false, cond, not, ◌&&◌, ◌||◌}
 use mathlib.Core.List.{List, [], ◌∷◌}
@@ -30,7 +30,7 @@ use Rattle.board_chip.specs.Detection.{prg_ram_readable}
 use Rattle.board_chip.specs.Load.{chip_at_load, board_at_load, detecting_at_load}
 use Rattle.board_chip.specs.Reset.{reset_chip}
 use Rattle.board_chr.specs.Slots.{write_slot, write_nametable}
-use Rattle.board_prg.specs.Banks.{write_bank, high_bits_e000, write_e800}
+use Rattle.board_prg.specs.Banks.{high_bits_e000, write_e800}
 use Rattle.board_registers.specs.Writes.{write_chip, remaps}
 use Rattle.board_protection.specs.Protection.{remap_banks, remaps_in}
 use Rattle.board_state.specs.declared.Options.{Options}
