@@ -1,10 +1,10 @@
 -- L23: after the same calls the two editions have the same registers, sound, counter and detection. Arenas may differ, but not in the
 -- battery reserve, which is all of them that a register is ever made of: no entry shows a byte of it, so no store of CPU or PPU reaches it.
-use Prim.Native.Nat.{ℕ, zero, suc, ◌+◌, ◌-◌, ◌*◌, ◌/◌, ◌%◌, ◌^◌, ◌≤◌, ◌<◌}
+use Prim.Native.Nat.{ℕ, zero, suc, ◌+◌, ◌-◌, ◌/◌, ◌%◌, ◌^◌, ◌≤◌, ◌<◌}
 use mathlib.Core.Path.{◌≡◌, refl, sym, ap, subst, ◌∙◌}
-use mathlib.Core.Bool.{Bool, true, false, cond}
+use mathlib.Core.Bool.{true, cond}
 use mathlib.Core.List.{List, [], ◌∷◌}
-use mathlib.Core.Logic.{◌⊎◌, inl, inr}
+use mathlib.Core.Logic.{inl, inr}
 use mathlib.Core.Option.{Option, some, none}
 use native.Mathlib.Omega.{arith}
 use native.Mathlib.Decide.{dec_le, ℕ_discrete}
@@ -27,7 +27,7 @@ use Rattle.memory.specs.declared.layout.Region.{Region}
 use Rattle.memory.specs.declared.layout.Src.{Src}
 use Rattle.memory.specs.declared.layout.Src.TheVariants.{BatteryExt}
 use Rattle.memory.specs.declared.page.Page.{Page}
-use Rattle.memory.specs.Layout.{arena_len, first_page, region_of}
+use Rattle.memory.specs.Layout.{arena_len, region_of}
 use Rattle.memory.specs.Memory.{region_in}
 use Rattle.memory.specs.Page.{unmapped, offset_of}
 use Rattle.memory.specs.Range.{EntryIn, UsedIn}
@@ -40,7 +40,7 @@ use Rattle.board_chip.specs.Reset.{reset_chip}
 use Rattle.sound.specs.Audio.{with_ram}
 use Rattle.board_chip.specs.Namco163.{is163, with_audio}
 use Rattle.board_registers.specs.Writes.{write_chip}
-use Rattle.board_protection.specs.Protection.{remap_banks, remaps_in}
+use Rattle.board_protection.specs.Protection.{remaps_in}
 use Rattle.board_state.specs.declared.Options.{Options}
 use Rattle.board_state.specs.declared.State.{State}
 use Rattle.board_state.specs.State.{in_range, with_chip}
@@ -59,7 +59,7 @@ use Rattle.thm_machine.specs.Calls.{Held, Other, cpu_read, cpu_peek, cpu_write, 
 use Rattle.thm_machine.specs.Calls.{sync_battery, restore_battery, write_image, ArgTyped, CallTyped}
 use Rattle.thm_machine.specs.Paper.{checks, answers}
 use Rattle.thm_machine.specs.Board.{other_gives, run_gives, board}
-use Rattle.thm_machine.specs.Start.{Loaded, loaded, zeroed}
+use Rattle.thm_machine.specs.Start.{Loaded, loaded}
 use Rattle.thm_machine.proofs.Keeps.{keeps-other}
 use Rattle.thm_machine.proofs.Start.{load-starts}
 use Rattle.thm_steps.proofs.Banking.{Kept, kept_self}
@@ -67,7 +67,7 @@ use Rattle.thm_steps.proofs.Protection.{remap-banks-kept}
 use Rattle.thm_range.specs.Fit.{Fit}
 use Rattle.thm_range.proofs.Calls.{by_answer, other_fits, run_fits, run-memory, load_fits, ranged-load}
 use Rattle.thm_editions.specs.Editions.{with_options, ChipsAlike}
-use Rattle.thm_editions.proofs.Outside.{reserve_at, reserve_end, Clear, Outside, TablesOutside, remap-banks-outside, new-outside}
+use Rattle.thm_editions.proofs.Outside.{reserve_at, reserve_end, Outside, TablesOutside, remap-banks-outside, new-outside}
 
 -- ---- one edition: fit, and no entry shows the reserve
 

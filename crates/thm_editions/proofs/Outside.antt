@@ -1,8 +1,7 @@
 -- No entry of either table shows a byte of the battery reserve, after a load and after every mapping in either edition. Assumes nothing.
-use Prim.Native.Nat.{ℕ, zero, suc, ◌+◌, ◌*◌, ◌/◌, ◌%◌, ◌^◌, ◌≤◌, ◌<◌}
-use mathlib.Core.Path.{◌≡◌, refl, sym}
-use mathlib.Core.Bool.{Bool, true, false, cond}
-use mathlib.Core.List.{List}
+use Prim.Native.Nat.{ℕ, ◌+◌, ◌*◌, ◌/◌, ◌%◌, ◌≤◌, ◌<◌}
+use mathlib.Core.Path.{◌≡◌}
+use mathlib.Core.Bool.{Bool, true, false}
 use mathlib.Core.Logic.{◌⊎◌, inl, inr}
 use native.Mathlib.Omega.{arith}
 use native.Mathlib.Decide.{ℕ_discrete}
@@ -21,7 +20,7 @@ use Rattle.memory.specs.declared.layout.Src.TheVariants.{PrgRom, PrgRam, Battery
 use Rattle.memory.specs.declared.mirroring.Mirroring.{Mirroring}
 use Rattle.memory.specs.declared.mirroring.Mirroring.TheVariants.{Horizontal}
 use Rattle.memory.specs.declared.page.Page.{Page}
-use Rattle.memory.specs.Layout.{within_limits, arena_order, pages_before, first_page, pages_in, region_len, region_of}
+use Rattle.memory.specs.Layout.{within_limits, arena_order, pages_before, first_page, region_len, region_of}
 use Rattle.memory.specs.Memory.{region_in}
 use Rattle.memory.specs.Page.{unmapped, page_of, offset_of}
 use Rattle.memory.specs.Range.{Sized, Ranged}
@@ -72,10 +71,12 @@ clear-by : (w : Bool) (l : Layout) (used : ℕ) (s : Src) → Shows s → (o : �
 unfolding pages_before arena_order
 clear-by true l used PrgRom rom o low high = inl (omega arith)
 clear-by true l used PrgRam ram o low high = inl (omega arith)
+clear-by true l used BatteryExt none o low high = elim none [ ]
 clear-by true l used Chr chr o low high = inr (omega arith)
 clear-by true l used CiRam ciram o low high = inr (omega arith)
 clear-by false l used PrgRom rom o low high = inl (omega arith)
 clear-by false l used PrgRam ram o low high = inl (omega arith)
+clear-by false l used BatteryExt none o low high = elim none [ ]
 clear-by false l used Chr chr o low high = inl (omega arith)
 clear-by false l used CiRam ciram o low high = inr (omega arith)
 

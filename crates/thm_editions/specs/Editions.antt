@@ -1,5 +1,5 @@
 -- L23: the same load in another edition, and what is alike after the same calls: registers, sound, counter and detection.
-use Rattle.std.specs.Prelude.{◌≡◌, List, ℕ, ◌^◌, ◌<◌, Float}
+use Rattle.std.specs.Prelude.{◌≡◌, List, ◌^◌, ◌<◌, Float}
 use Rattle.cut.specs.Calls.{Call}
 use Rattle.cut.specs.Always.{AllTyped}
 use Rattle.cut.specs.Demand3.{observed}
