@@ -1,5 +1,5 @@
 -- K9: what drops a block is exactly its causes: the test by touched pages holds where there is a `Cause`, both ways.
-use Prim.Native.Nat.{ℕ, zero, suc, ◌/◌, ◌≤◌, ◌<◌}
+use Prim.Native.Nat.{ℕ, zero, suc, ◌/◌, ◌<◌}
 use mathlib.Core.Path.{◌≡◌, refl, sym, ap, ◌∙◌}
 use mathlib.Core.Bool.{Bool, true, false, not, ◌&&◌, ◌||◌}
 use mathlib.Core.List.{List}
@@ -7,8 +7,7 @@ use mathlib.Core.Logic.{◌⊎◌, inl, inr}
 use mathlib.Core.Option.{Option, some, none}
 use native.Mathlib.Omega.{arith}
 use native.Mathlib.Decide.{ℕ_discrete}
-use borrow.Author.Tests.{eq-eqb, ne_eqb, eqb-true, eqb-false, not-true, not-false}
-use lib.Dec.{eqb}
+use borrow.Author.Tests.{eq-eqb, ne_eqb, eqb-true, eqb-false}
 use lib.ListN.{length, get_or}
 use Rattle.limits.proofs.Every.{and_left, and_right}
 use Rattle.memory.specs.declared.page.Page.{Page}
@@ -17,10 +16,10 @@ use Rattle.memory.specs.Page.{has_bit, unmapped, offset_of}
 use Rattle.call_cpu.specs.Calls.{write_register}
 use Rattle.directory.specs.Block.{start_of, len_of, under}
 use Rattle.directory.specs.Drop.{some_below, goes}
-use Rattle.directory_touched.specs.Touched.{shows_byte, shows, touched_at, touched}
+use Rattle.directory_touched.specs.Touched.{shows, touched_at, touched}
 use Rattle.directory_touched.proofs.Laws.{bit-touched}
 use Rattle.call_blocks.specs.Blocks.{cpu_touched, chr_touched, region_touched}
-use Rattle.thm_machine.specs.Calls.{Held, Other, cpu_read, cpu_peek, cpu_write, chr_read, chr_write, fill, region_peek, region_write, sram}
+use Rattle.thm_machine.specs.Calls.{Other, cpu_read, cpu_peek, cpu_write, chr_read, chr_write, fill, region_peek, region_write, sram}
 use Rattle.thm_machine.specs.Calls.{reset, sync_battery, restore_battery, write_image}
 use Rattle.thm_blocks.specs.Calls.{HeldBlocks}
 use Rattle.thm_blocks.specs.Cause.{stores_at, Cause, entry, stored, filled, synced}

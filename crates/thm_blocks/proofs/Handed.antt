@@ -31,9 +31,9 @@ use Rattle.thm_machine.proofs.Start.{load-starts}
 use Rattle.thm_range.proofs.Calls.{memory-load}
 use Rattle.thm_steps.proofs.Protection.{remap-banks-kept}
 use Rattle.thm_blocks.specs.Calls.{HeldBlocks, BlockCall, base, register, lookup, NumberTyped, BlockAnswer, found, none}
-use Rattle.thm_blocks.specs.Board.{block_reply, block_gives, block_run, block_board}
+use Rattle.thm_blocks.specs.Board.{block_gives, block_run, block_board}
 use Rattle.thm_blocks.specs.Paper.{block_checks, places_after}
-use Rattle.thm_blocks.specs.Cause.{word, bytes_from, bytes, accepted, Cause}
+use Rattle.thm_blocks.specs.Cause.{word, bytes, accepted, Cause}
 use Rattle.thm_blocks.specs.Handed.{after, Typed, HandsOut, Since, Spared}
 use Rattle.thm_blocks.proofs.Lawful.{one, kind_of, cause_by, blocks, base-accepted}
 use Rattle.thm_blocks.proofs.Lawful.{base-refused, ran-places, unregistered, emptied-word, lawful}

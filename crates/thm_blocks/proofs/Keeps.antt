@@ -1,20 +1,16 @@
 -- C16, C17: the board with a directory keeps to its `Paper`.
 use Prim.Native.Nat.{ℕ, zero, suc}
 use mathlib.Core.Path.{◌≡◌, refl, sym, ap, ◌∙◌}
-use mathlib.Core.Bool.{Bool, true, false, cond, not, ◌||◌}
+use mathlib.Core.Bool.{Bool, true, false, ◌||◌}
 use mathlib.Core.List.{List}
 use native.Mathlib.Omega.{arith}
-use borrow.Author.Tests.{ne_eqb}
-use lib.Dec.{ltb, eqb}
+use lib.Dec.{ltb}
 use lib.Ieee.{Float}
 use lib.ListN.{length}
 use Rattle.cut.specs.Calls.{RunGave, Point, start}
 use Rattle.cut.specs.Machine.{Answered, tick, ticks, plainly, other_of}
 use Rattle.cut.specs.Contract.{run_by, run_of, Keeps}
 use Rattle.call_refusals.specs.Refusals.{Check, first_of, unless_kept}
-use Rattle.call_cpu.specs.Calls.{cpu_write as cpu_write_gives, cpu_write_arena}
-use Rattle.call_regions.specs.Regions.{chr_write_arena, fill_arena, region_write_arena}
-use Rattle.call_battery.specs.Battery.{sync_arena}
 use Rattle.call_run.specs.Run.{run_checks}
 use Rattle.directory.specs.Block.{fits, free, holds}
 use Rattle.directory.specs.Fit.{any, fit}
@@ -24,12 +20,12 @@ use Rattle.call_blocks.specs.Blocks.{region_write_leaves, region_write_drops, fi
 use Rattle.call_blocks.proofs.Laws.{unfit-number, fit-number, given-refused, given-accepted}
 use Rattle.thm_machine.specs.Calls.{Held, Other, cpu_read, cpu_peek, cpu_write, chr_read, chr_write, fill, region_peek, region_write, sram}
 use Rattle.thm_machine.specs.Calls.{reset, sync_battery, restore_battery, write_image, Answer}
-use Rattle.thm_machine.specs.Paper.{clock, checks, answers, paper}
-use Rattle.thm_machine.specs.Board.{other_gives, run_gives}
+use Rattle.thm_machine.specs.Paper.{clock, checks, answers}
+use Rattle.thm_machine.specs.Board.{other_gives}
 use Rattle.thm_machine.proofs.Keeps.{keeps, keeps-other}
-use Rattle.thm_blocks.specs.Calls.{HeldBlocks, BlockCall, base, register, lookup, BlockAnswer, found, none}
-use Rattle.thm_blocks.specs.Board.{leaving, handing_on, base_gives, block_reply, block_gives, block_run, block_board}
-use Rattle.thm_blocks.specs.Paper.{block_clock, takes, block_checks, places_after, handed_out, block_answers, block_paper}
+use Rattle.thm_blocks.specs.Calls.{HeldBlocks, BlockCall, base, register, lookup}
+use Rattle.thm_blocks.specs.Board.{leaving, handing_on, base_gives, block_gives, block_run, block_board}
+use Rattle.thm_blocks.specs.Paper.{block_clock, takes, block_checks, places_after, block_answers, block_paper}
 
 -- ---- clocks leave the places
 

@@ -1,9 +1,8 @@
 -- The board with a directory as a machine of crates/handed, and what has to be shown of each of its calls.
-use Prim.Native.Nat.{ℕ, zero, suc, ◌+◌, ◌/◌, ◌%◌, ◌^◌, ◌≤◌, ◌<◌}
-use mathlib.Core.Path.{◌≡◌, refl, sym, ap, ap₂, ◌∙◌}
-use mathlib.Core.Bool.{Bool, true, false, cond, not, ◌&&◌}
-use mathlib.Core.List.{List, [], ◌∷◌}
-use mathlib.Core.Option.{Option}
+use Prim.Native.Nat.{ℕ, zero, suc, ◌+◌, ◌%◌, ◌^◌, ◌≤◌, ◌<◌}
+use mathlib.Core.Path.{◌≡◌, refl, sym, ap₂, ◌∙◌}
+use mathlib.Core.Bool.{Bool, true, false, cond, ◌&&◌}
+use mathlib.Core.List.{List, ◌∷◌}
 use native.Mathlib.Omega.{arith}
 use native.Mathlib.Decide.{ℕ_discrete}
 use borrow.Author.Tests.{eq-eqb, ne_eqb, eqb-true}
@@ -13,27 +12,24 @@ use lib.ListN.{length, get_or, replicate}
 use Rattle.limits.proofs.Every.{and_left, and_right}
 use Rattle.limits.proofs.Each.{cond-holds}
 use Rattle.cut.specs.Calls.{Call, run, other}
-use Rattle.memory.specs.declared.Memory.{Memory}
 use Rattle.memory.specs.Range.{MemoryTyped}
 use Rattle.memory.specs.Page.{unmapped, offset_of}
-use Rattle.memory_bytes.specs.Bytes.{prg_peek, store}
-use Rattle.board_chip.specs.declared.reads.Served.TheVariants.{Nothing}
-use Rattle.board_chip.specs.Reads.{byte_or}
+use Rattle.memory_bytes.specs.Bytes.{prg_peek}
 use Rattle.board_registers.specs.Writes.{write_chip}
 use Rattle.board_protection.specs.Protection.{remaps_in}
 use Rattle.board_state.specs.declared.State.{State}
 use Rattle.board_state.specs.State.{in_range}
 use Rattle.board_state.proofs.Range.{memory-good}
-use Rattle.call_refusals.specs.Refusals.{Check, first_of}
-use Rattle.call_refusals.proofs.Laws.{Arena, arena-good, cpu-good}
-use Rattle.call_cpu.specs.Calls.{cpu_byte, write_register}
-use Rattle.directory.specs.Block.{start_of, len_of, word_of, fits, free, holds}
-use Rattle.directory.specs.Fit.{sound, fit}
+use Rattle.call_refusals.specs.Refusals.{first_of}
+use Rattle.call_refusals.proofs.Laws.{arena-good, cpu-good}
+use Rattle.call_cpu.specs.Calls.{write_register}
+use Rattle.directory.specs.Block.{start_of, len_of, word_of, holds}
+use Rattle.directory.specs.Fit.{fit}
 use Rattle.directory.specs.Calls.{register_refusal, registered, word_at}
 use Rattle.directory.specs.Drop.{goes, kept, dropped}
 use Rattle.directory.proofs.Laws.Pages.{fits-says}
-use Rattle.directory.proofs.Laws.Sound.{sound-cons, fit-sound}
-use Rattle.directory.proofs.Laws.Registered.{accepted as register-accepted, registered-fit, refused-same, word-registered}
+use Rattle.directory.proofs.Laws.Sound.{fit-sound}
+use Rattle.directory.proofs.Laws.Registered.{accepted as register-accepted, registered-fit, word-registered}
 use Rattle.directory.proofs.Laws.Dropped.{dropped-fit, word-dropped, kept_goes, kept-stays, word_fits}
 use Rattle.directory_touched.proofs.Laws.{held_bytes}
 use Rattle.call_blocks.specs.Blocks.{with_directory, emptied, cpu_touched, chr_touched, region_touched}

@@ -1,7 +1,6 @@
 -- K9: why a block goes, a constructor for each cause; and what a list is about: the block of a start, its bytes, and accepted calls.
-use Rattle.std.specs.Prelude.{ℕ, zero, suc, ◌+◌, ◌/◌, ◌<◌, ◌≡◌, Bool, true, false, cond, ◌&&◌, List, [], ◌∷◌, eqb, Float, get_or}
+use Rattle.std.specs.Prelude.{ℕ, zero, suc, ◌+◌, ◌/◌, ◌<◌, ◌≡◌, Bool, true, cond, List, [], ◌∷◌, eqb, get_or}
 use Rattle.std.proofs.Math.Option.{Option, some, none}
-use Rattle.cut.specs.Calls.{Call, run, other}
 use Rattle.memory.specs.declared.layout.Src.{Src}
 use Rattle.memory.specs.Memory.{region_in}
 use Rattle.memory.specs.Page.{unmapped, offset_of}
@@ -13,7 +12,7 @@ use Rattle.directory.specs.Fit.{fit}
 use Rattle.directory.specs.Calls.{word_at}
 use Rattle.thm_machine.specs.Calls.{Held, Other, cpu_read, cpu_peek, cpu_write, chr_read, chr_write, fill, region_peek, region_write, sram}
 use Rattle.thm_machine.specs.Calls.{reset, sync_battery, restore_battery, write_image}
-use Rattle.thm_blocks.specs.Calls.{HeldBlocks, BlockCall, base, register, lookup}
+use Rattle.thm_blocks.specs.Calls.{HeldBlocks, BlockCall}
 use Rattle.thm_blocks.specs.Paper.{block_checks}
 
 -- K4: the word of the block that a lookup of a start hands out, or 0

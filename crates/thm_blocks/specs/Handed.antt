@@ -1,13 +1,12 @@
 -- K8 and K9: what is promised of blocks, over every list of calls, refused ones among them. `after` is what a list leaves on the board that
 -- the contracts give.
-use Rattle.std.specs.Prelude.{ℕ, ◌≡◌, true, false, List, [], ◌∷◌, ◌++◌, Float}
+use Rattle.std.specs.Prelude.{ℕ, ◌≡◌, true, List, [], ◌∷◌, ◌++◌, Float}
 use Rattle.cut.specs.Calls.{Call, run, other, answered}
 use Rattle.cut.specs.Demand3.{observed}
 use Rattle.memory.specs.Range.{MemoryTyped}
-use Rattle.directory.specs.Block.{word_of}
 use Rattle.thm_blocks.specs.Calls.{HeldBlocks, BlockCall, base, register, lookup, found}
 use Rattle.thm_blocks.specs.Board.{block_gives, block_board}
-use Rattle.thm_blocks.specs.Cause.{word, bytes_from, accepted, Cause}
+use Rattle.thm_blocks.specs.Cause.{bytes_from, accepted, Cause}
 
 abbrev pub after : List (Call Float BlockCall) → HeldBlocks → HeldBlocks
 after calls h = (observed block_board calls h).state
