@@ -11,7 +11,7 @@ use borrow.Author.Tests.{eq-eqb, ne_eqb}
 use lib.ListN.{length}
 use Rattle.memory.specs.declared.layout.MemoryLayout.{MemoryLayout}
 use Rattle.board_state.specs.declared.Options.{Options}
-use Rattle.call_refusals.specs.Refusals.{Check, first_of, kind_check, load_checks}
+use Rattle.call_refusals.specs.Refusals.{Check, first_of, kind_check}
 use Rattle.call_refusals.proofs.Laws.{refused-is}
 use Rattle.image_write.specs.Options.{room_for}
 use Rattle.image_write.specs.Writing.{image_check}

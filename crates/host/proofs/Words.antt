@@ -17,7 +17,7 @@ use Rattle.memory.proofs.Laws.Changes.{changed-lt}
 use Rattle.board_state.specs.declared.State.{State}
 use Rattle.board_state.specs.State.{Known}
 use Rattle.board_state.specs.declared.Options.{Options}
-use Rattle.call_refusals.specs.Refusals.{Check, first_of, unless_refused, kind_check, cpu_checks, load_checks}
+use Rattle.call_refusals.specs.Refusals.{Check, first_of, unless_refused, kind_check, cpu_checks}
 use Rattle.call_refusals.proofs.Laws.{accepted-is, number_is}
 use Rattle.call_cpu.specs.declared.calls.Written.{Written}
 use Rattle.call_cpu.specs.Calls.{write_register, cpu_read, cpu_write}

@@ -16,13 +16,7 @@ use image_read::reading::read_image;
 use image_write::writing::{put_image, room_for};
 
 // Registers a block (K3). The word is the refusal number alone.
-#[unsafe(no_mangle)]
-pub extern "C" fn namco163_register(
-    directory: &mut [u64],
-    start: u16,
-    length: u64,
-    number: u32,
-) -> u64
+pub fn namco163_register(directory: &mut [u64], start: u16, length: u64, number: u32) -> u64
     ensures value { result ≡ register_refusal directory.old start length }
     ensures directory_after { directory.new ≡ registered directory.old start length number }
 {
@@ -30,8 +24,7 @@ pub extern "C" fn namco163_register(
 }
 
 // The block held at a start (K4): its length in bits 8..31, its number in bits 32..63; 0 for none.
-#[unsafe(no_mangle)]
-pub extern "C" fn namco163_lookup(directory: &[u64], start: u16) -> u64
+pub fn namco163_lookup(directory: &[u64], start: u16) -> u64
     ensures { result ≡ host_lookup directory.now start }
 {
     let found = lookup(directory, start);
@@ -40,8 +33,7 @@ pub extern "C" fn namco163_lookup(directory: &[u64], start: u16) -> u64
 
 // The same without the tests of N2 and N8: of a fit directory the word is a lookup's (found-word), and 0 below 6000 (low-none of
 // directory).
-#[unsafe(no_mangle)]
-pub extern "C" fn namco163_find(directory: &[u64], start: u16) -> u64
+pub fn namco163_find(directory: &[u64], start: u16) -> u64
     ensures { result ≡ host_find directory.now start }
 {
     let w = find(directory, start);
@@ -49,8 +41,7 @@ pub extern "C" fn namco163_find(directory: &[u64], start: u16) -> u64
 }
 
 // A load with options that empties the directory too (K7). It reads neither image nor places.
-#[unsafe(no_mangle)]
-pub extern "C" fn namco163_load_blocks(
+pub fn namco163_load_blocks(
     image: &mut [u8],
     arena: &mut [u8],
     directory: &mut [u64],
@@ -101,8 +92,7 @@ pub extern "C" fn namco163_load_blocks(
 }
 
 // A CPU write, which drops the blocks over the pages that it touches (K5). Word, image and arena are namco163_write's.
-#[unsafe(no_mangle)]
-pub extern "C" fn namco163_write_blocks(
+pub fn namco163_write_blocks(
     image: &mut [u8],
     arena: &mut [u8],
     directory: &mut [u64],
@@ -125,8 +115,7 @@ pub extern "C" fn namco163_write_blocks(
 }
 
 // After a store of the host's own into the arena: the blocks over the pages that show the byte's arena page go (K5).
-#[unsafe(no_mangle)]
-pub extern "C" fn namco163_stored(image: &[u8], directory: &mut [u64], offset: u64) -> u64
+pub fn namco163_stored(image: &[u8], directory: &mut [u64], offset: u64) -> u64
     ensures value { result ≡ host_stored image.now directory.old }
     ensures directory_after { directory.new ≡ host_stored_places image.now directory.old offset }
 {

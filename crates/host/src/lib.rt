@@ -1,8 +1,8 @@
-// The calls of the C host (H4): the seven without a directory of blocks here, the six with one in blocks.rt. Each answers 64 bits, with its
+// The calls of the C host (H4), which `host_c` exports: the seven without a directory of blocks here, the six with one in blocks.rt. Each answers 64 bits, with its
 // refusal number in the low 8, 0 for accepted (H6).
 #![tactic(auto)]
 
-mod blocks; // blocks.rt: register, lookup, find, and load, write and stored with a directory
+pub mod blocks; // blocks.rt: register, lookup, find, and load, write and stored with a directory
 mod load; // load.rt: loads into an image
 
 ghost use Rattle.std.specs.Prelude.{◌≡◌};
@@ -16,8 +16,7 @@ use host_state::{read_on, reset_on, run_on, write_on};
 use image_read::reading::read_image;
 
 // A fresh state for a cartridge, and its arena filled with zeros. Sizes are in bytes; `in_database` and `chr_ram` are 0 for no (H5).
-#[unsafe(no_mangle)]
-pub extern "C" fn namco163_load(
+pub fn namco163_load(
     image: &mut [u8],
     arena: &mut [u8],
     mapper: u64,
@@ -55,8 +54,7 @@ pub extern "C" fn namco163_load(
 }
 
 // The same with the options of L19, each 0 for no.
-#[unsafe(no_mangle)]
-pub extern "C" fn namco163_load_options(
+pub fn namco163_load_options(
     image: &mut [u8],
     arena: &mut [u8],
     mapper: u64,
@@ -95,8 +93,7 @@ pub extern "C" fn namco163_load_options(
 }
 
 // Kind 0 is soft, 1 is hard (N3).
-#[unsafe(no_mangle)]
-pub extern "C" fn namco163_reset(image: &mut [u8], kind: u64) -> u64
+pub fn namco163_reset(image: &mut [u8], kind: u64) -> u64
     ensures value { result ≡ (host_reset image.old kind).word }
     ensures image_after { image.new ≡ (host_reset image.old kind).image }
 {
@@ -109,8 +106,7 @@ pub extern "C" fn namco163_reset(image: &mut [u8], kind: u64) -> u64
 }
 
 // The byte at a CPU address, in bits 8..15 (H6).
-#[unsafe(no_mangle)]
-pub extern "C" fn namco163_read(image: &mut [u8], arena: &[u8], addr: u16) -> u64
+pub fn namco163_read(image: &mut [u8], arena: &[u8], addr: u16) -> u64
     ensures value { result ≡ (host_read image.old arena.now addr).word }
     ensures image_after { image.new ≡ (host_read image.old arena.now addr).image }
 {
@@ -123,8 +119,7 @@ pub extern "C" fn namco163_read(image: &mut [u8], arena: &[u8], addr: u16) -> u6
 }
 
 // The changed page entries: those of CHR in bits 8..23, those of PRG in bits 24..63 (H6).
-#[unsafe(no_mangle)]
-pub extern "C" fn namco163_write(image: &mut [u8], arena: &mut [u8], addr: u16, val: u8) -> u64
+pub fn namco163_write(image: &mut [u8], arena: &mut [u8], addr: u16, val: u8) -> u64
     ensures value { result ≡ (host_write image.old arena.old addr val).word }
     ensures image_after { image.new ≡ (host_write image.old arena.old addr val).image }
     ensures arena_after { arena.new ≡ (host_write image.old arena.old addr val).lent }
@@ -138,8 +133,7 @@ pub extern "C" fn namco163_write(image: &mut [u8], arena: &mut [u8], addr: u16, 
 }
 
 // What a write would answer, with nothing altered (L18).
-#[unsafe(no_mangle)]
-pub extern "C" fn namco163_preview(image: &[u8], arena: &[u8], addr: u16, val: u8) -> u64
+pub fn namco163_preview(image: &[u8], arena: &[u8], addr: u16, val: u8) -> u64
     ensures { result ≡ (host_write image.now arena.now addr val).word }
 {
     let read = read_image(image);
@@ -151,8 +145,7 @@ pub extern "C" fn namco163_preview(image: &[u8], arena: &[u8], addr: u16, val: u
 }
 
 // Runs so many clocks: samples made in bits 8..31, the clock of the rise in bits 32..63 (H6).
-#[unsafe(no_mangle)]
-pub extern "C" fn namco163_run(image: &mut [u8], samples: &mut [u8], clocks: u64) -> u64
+pub fn namco163_run(image: &mut [u8], samples: &mut [u8], clocks: u64) -> u64
     ensures value { result ≡ (host_run image.old samples.old clocks).word }
     ensures image_after { image.new ≡ (host_run image.old samples.old clocks).image }
     ensures samples_after { samples.new ≡ (host_run image.old samples.old clocks).lent }
