@@ -9,26 +9,19 @@ use Rattle.image_write.proofs.writing.Laws.{refused-length, refused-state, accep
 use Rattle.image_write.proofs.writing.write_image.Goals as goal
 
 pub returns-then-not-room_for : goal.returns-then-not-room_for
-returns-then-not-room_for c =
-    refused-length c.args.s c.args.img.now (sym c.room_for.ensures ∙ not-true c.room_for.result c.if-not-room_for.true-raw)
-
--- the bytes hold the image
-roomy : (r b : Bool) → r ≡ b → not r ≡ false → b ≡ true
-roomy r b e f = sym e ∙ not-false r f
+returns-then-not-room_for c = refused-length c.args.s c.args.img.now (sym c.room_for.ensures ∙ c.if-not-room_for.true)
 
 pub put_image-requires : goal.put_image-requires
 put_image-requires c = (
-  roomy _ _ c.room_for.ensures c.if-not-room_for.false-raw,
+  sym c.room_for.ensures ∙ c.if-not-room_for.false,
   known c.args.s _ c.well_formed.0 (sym c.in_range.ensures ∙ c.if-in_range.true),
 )
 
 pub returns-then-in_range : goal.returns-then-in_range
 returns-then-in_range c =
-    let r = roomy _ (room_for (option_set c.args.s) (length c.args.img.now)) c.room_for.ensures c.if-not-room_for.false-raw in
-    let a = accepted c.args.s c.args.img.now r (sym c.in_range.ensures ∙ c.if-in_range.true) in
+    let a = accepted c.args.s c.args.img.now (sym c.room_for.ensures ∙ c.if-not-room_for.false) (sym c.in_range.ensures ∙ c.if-in_range.true) in
     (a.0, c.put_image.ensures ∙ a.1)
 
 pub returns : goal.returns
 returns c =
-    let r = roomy _ (room_for (option_set c.args.s) (length c.args.img.now)) c.room_for.ensures c.if-not-room_for.false-raw in
-    refused-state c.args.s c.args.img.now r (sym c.in_range.ensures ∙ c.if-in_range.false)
+    refused-state c.args.s c.args.img.now (sym c.room_for.ensures ∙ c.if-not-room_for.false) (sym c.in_range.ensures ∙ c.if-in_range.false)
