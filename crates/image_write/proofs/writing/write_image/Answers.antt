@@ -1,10 +1,6 @@
 -- `write_image` meets its contract: refused by its length, accepted, refused by its state.
-use mathlib.Core.Path.{◌≡◌, sym, ◌∙◌}
-use mathlib.Core.Bool.{Bool, true, false, not}
-use borrow.Author.Tests.{not-true, not-false}
-use lib.ListN.{length}
+use mathlib.Core.Path.{sym, ◌∙◌}
 use Rattle.board_state.proofs.Range.{known}
-use Rattle.image_write.specs.Options.{option_set, room_for}
 use Rattle.image_write.proofs.writing.Laws.{refused-length, refused-state, accepted}
 use Rattle.image_write.proofs.writing.write_image.Goals as goal
 
