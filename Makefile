@@ -5,7 +5,7 @@
 # make quick      the gate on what has changed, without the must-fail edits: for the daily loop
 # make install    header, archive (as libnamco163.a), namco163.pc and licences below PREFIX, or /usr/local; DESTDIR goes before it
 # make uninstall  removes what `make install` put there
-# make clean      removes target/ and what cargo built
+# make clean      removes target/, what the prover kept and what cargo built
 # make help       prints these lines
 #
 # Parts of the gate, each alone:
@@ -21,7 +21,8 @@
 
 PREFIX ?= /usr/local
 archive := target/staticlib/libhost.a
-sources := crates.txt $(shell find crates -type f -not -path '*/must-fail/*')
+program := target/bin/replay
+sources := crates.txt $(shell find crates -type f -not -path '*/must-fail/*' -not -path '*/out/*')
 header := include/namco163.h
 number = $(shell sed -n 's/^\#define NAMCO163_VERSION_$(1) \([0-9]*\)$$/\1/p' $(header))
 version = $(call number,MAJOR).$(call number,MINOR).$(call number,PATCH)
@@ -33,6 +34,9 @@ all: $(archive)
 
 $(archive): $(sources)
 	@scripts/archive
+
+$(program): $(sources)
+	@scripts/program
 
 demo: $(archive)
 	@scripts/demo
@@ -55,7 +59,7 @@ uninstall:
 	rm -rf "$(at)/share/doc/namco163"
 
 clean:
-	rm -rf target oracle/target bench/host/target
+	rm -rf target oracle/target bench/host/target crates/*/out
 
 help:
 	@sed -n '2,/^$$/s/^# \{0,1\}//p' Makefile
@@ -67,13 +71,13 @@ promises:
 	@scripts/promises
 	@scripts/clauses
 
-replays:
+replays: $(program)
 	@scripts/replays
 
 c-host: $(archive)
 	@scripts/c-host
 
-compare:
+compare: $(program)
 	@scripts/compare
 
 sessions:
@@ -83,4 +87,4 @@ bench:
 	@bench/run
 
 fmt:
-	rt fmt
+	@for crate in crates/*/; do (cd "$$crate" && rt fmt) || exit 1; done

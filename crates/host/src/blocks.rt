@@ -31,7 +31,7 @@ pub fn namco163_lookup(directory: &[u64], start: u16) -> u64
     found.refusal as u64 + found.len as u64 * 256 + found.number as u64 * 4_294_967_296
 }
 
-// The same without the tests of N2 and N8: of a fit directory the word is a lookup's (found-word), and 0 below 6000 (low-none of
+// The same without the tests of N2 and N8: of a fit directory the word is a lookup's (found_word_lem), and 0 below 6000 (low-none of
 // directory).
 pub fn namco163_find(directory: &[u64], start: u16) -> u64
     ensures { result ≡ host_find directory.now start }
