@@ -8,21 +8,36 @@ use Rattle.call_blocks.proofs.Laws.{load-unfit, load-refused, load-accepted, loa
 use Rattle.call_blocks.proofs.calls.load.Goals as goal
 
 pub returns-then-d-ne256 : goal.returns-then-d-ne256
-returns-then-d-ne256 c = let u = load-unfit c.args.d.now c.args.mapper c.args.submapper c.args.flags c.args.known c.args.sizes c.args.options c.args.arena.now
-    c.if-d-ne256.true in
+returns-then-d-ne256 c =
+    let a = c.args in
+    let u = load-unfit a.d.now a.mapper a.submapper a.flags a.known a.sizes a.options a.arena.now c.if-d-ne256.true in
     record { value = rw c.no_state-none.ensures (sym u.0); arena_after = sym u.1.0; d_after = sym u.1.1 }
 
 pub returns-then-loaded-ne0 : goal.returns-then-loaded-ne0
-returns-then-loaded-ne0 c = let t = load-refused c.args.d.now c.args.mapper c.args.submapper c.args.flags c.args.known c.args.sizes c.args.options c.args.arena.now ((let it : length c.args.d.now ≡ 256 = c.if-d-ne256.false in it))
-    (λ z. c.if-loaded-ne0.true ((let it : c.load-loaded.result.refusal ≡ first_of (load_checks c.args.mapper c.args.sizes (length c.args.arena.now)) = ap (λ (l : Loaded). l.refusal) c.load-loaded.ensures.0
-    ∙ load-number c.args.mapper c.args.submapper c.args.flags c.args.known c.args.sizes c.args.options
-    (length c.args.arena.now) in it) ∙ z)) in
-    record { value = c.load-loaded.ensures.0 ∙ sym t.0; arena_after = c.load-loaded.ensures.1 ∙ sym t.1.0; d_after = sym t.1.1 }
+returns-then-loaded-ne0 c =
+    let a = c.args in
+    let number : c.load-loaded.result.refusal ≡ first_of (load_checks a.mapper a.sizes (length a.arena.now)) =
+    ap (λ (l : Loaded). l.refusal) c.load-loaded.ensures.0
+    ∙ load-number a.mapper a.submapper a.flags a.known a.sizes a.options (length a.arena.now) in
+    let t = load-refused a.d.now a.mapper a.submapper a.flags a.known a.sizes a.options a.arena.now c.if-d-ne256.false
+    (λ z. c.if-loaded-ne0.true (number ∙ z)) in
+    record {
+      value = c.load-loaded.ensures.0 ∙ sym t.0;
+      arena_after = c.load-loaded.ensures.1 ∙ sym t.1.0;
+      d_after = sym t.1.1;
+    }
 
 pub returns : goal.returns
-returns c = let t = load-accepted c.args.d.now c.args.mapper c.args.submapper c.args.flags c.args.known c.args.sizes c.args.options c.args.arena.now ((let it : length c.args.d.now ≡ 256 = c.if-d-ne256.false in it))
-    (sym ((let it : c.load-loaded.result.refusal ≡ first_of (load_checks c.args.mapper c.args.sizes (length c.args.arena.now)) = ap (λ (l : Loaded). l.refusal) c.load-loaded.ensures.0
-    ∙ load-number c.args.mapper c.args.submapper c.args.flags c.args.known c.args.sizes c.args.options
-    (length c.args.arena.now) in it)) ∙ c.if-loaded-ne0.false) in
-    let all = c.empty.ensures ∙ ap (λ (k : ℕ). replicate k 0) ((let it : length c.args.d.now ≡ 256 = c.if-d-ne256.false in it)) in
-    record { value = c.load-loaded.ensures.0 ∙ sym t.0; arena_after = c.load-loaded.ensures.1 ∙ sym t.1.0; d_after = all ∙ sym t.1.1 }
+returns c =
+    let a = c.args in
+    let number : c.load-loaded.result.refusal ≡ first_of (load_checks a.mapper a.sizes (length a.arena.now)) =
+    ap (λ (l : Loaded). l.refusal) c.load-loaded.ensures.0
+    ∙ load-number a.mapper a.submapper a.flags a.known a.sizes a.options (length a.arena.now) in
+    let t = load-accepted a.d.now a.mapper a.submapper a.flags a.known a.sizes a.options a.arena.now c.if-d-ne256.false
+    (sym number ∙ c.if-loaded-ne0.false) in
+    let all = c.empty.ensures ∙ ap (λ (k : ℕ). replicate k 0) c.if-d-ne256.false in
+    record {
+      value = c.load-loaded.ensures.0 ∙ sym t.0;
+      arena_after = c.load-loaded.ensures.1 ∙ sym t.1.0;
+      d_after = all ∙ sym t.1.1;
+    }

@@ -1,23 +1,30 @@
 -- `chr_write` meets its contract: the directory unfit, the call refused, and accepted.
-use mathlib.Core.Path.{◌≡◌}
-use mathlib.Core.Bool.{true}
-use Rattle.directory.specs.Fit.{fit}
+use mathlib.Core.Path.{sym, ◌∙◌}
 use Rattle.call_blocks.specs.Blocks.{chr_touched, chr_write_leaves, chr_write_drops}
-use Rattle.call_blocks.proofs.Laws.{unfit-here, fit-here, told-unfit, told-refused, told-accepted, stored-gone}
+use Rattle.call_blocks.proofs.Laws.{told-unfit, told-refused, told-accepted, stored-gone}
 use Rattle.call_blocks.proofs.writes.chr_write.Goals as goal
 
 pub returns-then-not-fit : goal.returns-then-not-fit
 unfolding chr_write_leaves chr_write_drops
-returns-then-not-fit c = let both = told-unfit c.args.d.now _ c.args.arena.now _ _ (unfit-here _ c.fit.ensures c.if-not-fit.true-raw) in record { value = both.0; arena_after = both.1.0; d_after = both.1.1 }
+returns-then-not-fit c =
+    let unfit = sym c.fit.ensures ∙ c.if-not-fit.true in
+    let told = told-unfit c.args.d.now _ c.args.arena.now _ _ unfit in
+    record { value = told.0; arena_after = told.1.0; d_after = told.1.1 }
 
 pub returns-then-q-ne0 : goal.returns-then-q-ne0
 unfolding chr_write_leaves chr_write_drops
-returns-then-q-ne0 c = let both = told-refused c.args.d.now _ c.args.arena.now _ _ ((let it : fit c.args.d.now ≡ true = fit-here _ c.fit.ensures c.if-not-fit.false-raw in it)) c.chr_write-q.ensures c.if-q-ne0.true in record { value = both.0; arena_after = both.1.0; d_after = both.1.1 }
+returns-then-q-ne0 c =
+    let passed = sym c.fit.ensures ∙ c.if-not-fit.false in
+    let told = told-refused c.args.d.now _ c.args.arena.now _ _ passed c.chr_write-q.ensures c.if-q-ne0.true in
+    record { value = told.0; arena_after = told.1.0; d_after = told.1.1 }
 
 pub drop_touched-requires : goal.drop_touched-requires
-drop_touched-requires c = (let it : fit c.args.d.now ≡ true = fit-here _ c.fit.ensures c.if-not-fit.false-raw in it)
+drop_touched-requires c = sym c.fit.ensures ∙ c.if-not-fit.false
 
 pub returns : goal.returns
 unfolding chr_write_leaves chr_write_drops chr_touched
-returns c = let both = told-accepted c.args.d.now _ c.args.arena.now _ _ ((let it : fit c.args.d.now ≡ true = fit-here _ c.fit.ensures c.if-not-fit.false-raw in it)) c.chr_write-q.ensures c.if-q-ne0.false
-    (stored-gone c.args.s.memory.prg_pages _ c.args.d.now c.stored_chr-stored.ensures c.drop_touched.ensures) in record { value = both.0; arena_after = both.1.0; d_after = both.1.1 }
+returns c =
+    let passed = sym c.fit.ensures ∙ c.if-not-fit.false in
+    let gone = stored-gone c.args.s.memory.prg_pages _ c.args.d.now c.stored_chr-stored.ensures c.drop_touched.ensures in
+    let told = told-accepted c.args.d.now _ c.args.arena.now _ _ passed c.chr_write-q.ensures c.if-q-ne0.false gone in
+    record { value = told.0; arena_after = told.1.0; d_after = told.1.1 }
