@@ -1,6 +1,10 @@
 -- `namco163_write_blocks` meets its contract: refused by the image, or on with its state.
-use mathlib.Core.Path.{◌∙◌}
+use Prim.Native.Nat.{ℕ}
+use mathlib.Core.Path.{◌≡◌, ◌∙◌}
+use mathlib.Core.List.{List}
 use lib.ListN.{length}
+use Rattle.image_read.specs.declared.reading.ReadImage.{ReadImage}
+use Rattle.image_read.specs.Reading.{read_image}
 use Rattle.call_blocks.specs.Blocks.{cpu_write_drops}
 use Rattle.host_state.specs.HostState.{write_gives}
 use Rattle.host_state.proofs.Laws.{word_of, image-of, lent_of}
@@ -10,15 +14,43 @@ use Rattle.host.proofs.Laws.{OnImage, on-image}
 use Rattle.host.proofs.WithDirectory.{Places, places, either-given}
 use Rattle.host.proofs.blocks.namco163_write_blocks.Goals as goal
 
+-- the call, and what it makes of the places, by what the reading of the image answered
+module _ (image arena directory : List ℕ) (addr val : ℕ) {r : ReadImage} (is : r ≡ read_image image) where
+  call : OnImage image arena (λ s. blocks_own directory s arena addr) (λ s. write_gives (length image) s arena addr val) r
+  call = on-image _ _ _ _ _ is
+
+  drops : Places image directory (λ s. cpu_write_drops directory s arena addr val) r
+  drops = places _ _ _ _ is
+
 pub returns-then-read-ne0 : goal.returns-then-read-ne0
 unfolding host_write_blocks host_write_places
-returns-then-read-ne0 c = let e = ((let it : OnImage c.args.image.now c.args.arena.now (λ s. blocks_own c.args.directory.now s c.args.arena.now c.args.addr) (λ s. write_gives (length c.args.image.now) s c.args.arena.now c.args.addr c.args.val) c.read_image-read.result = on-image _ _ _ _ _ c.read_image-read.ensures in it)).refused c.if-read-ne0.true in record { value = word_of e; image_after = image-of e; arena_after = lent_of e; directory_after = ((let it : Places c.args.image.now c.args.directory.now (λ s. cpu_write_drops c.args.directory.now s c.args.arena.now c.args.addr c.args.val) c.read_image-read.result = places _ _ _ _ c.read_image-read.ensures in it)).kept c.if-read-ne0.true }
+returns-then-read-ne0 c =
+    let a = c.args in
+    let e = (call a.image.now a.arena.now a.directory.now a.addr a.val c.read_image-read.ensures).refused c.if-read-ne0.true in
+    record {
+      value = word_of e;
+      image_after = image-of e;
+      arena_after = lent_of e;
+      directory_after = (drops a.image.now a.arena.now a.directory.now a.addr a.val c.read_image-read.ensures).kept c.if-read-ne0.true;
+    }
 
 pub write_blocks_on-requires : goal.write_blocks_on-requires
-write_blocks_on-requires c = ((let it : OnImage c.args.image.now c.args.arena.now (λ s. blocks_own c.args.directory.now s c.args.arena.now c.args.addr) (λ s. write_gives (length c.args.image.now) s c.args.arena.now c.args.addr c.args.val) c.read_image-read.result = on-image _ _ _ _ _ c.read_image-read.ensures in it)).good c.if-read-ne0.false
+write_blocks_on-requires c =
+    let a = c.args in
+    (call a.image.now a.arena.now a.directory.now a.addr a.val c.read_image-read.ensures).good c.if-read-ne0.false
 
 pub returns : goal.returns
 unfolding host_write_blocks host_write_places
-returns c = let e = either-given c.read_image-read.result.state c.args.directory.now (cpu_own c.read_image-read.result.state c.args.arena.now c.args.addr) c.args.image.now c.args.arena.now
-    (write_gives (length c.args.image.now) c.read_image-read.result.state c.args.arena.now c.args.addr c.args.val) ∙ ((let it : OnImage c.args.image.now c.args.arena.now (λ s. blocks_own c.args.directory.now s c.args.arena.now c.args.addr) (λ s. write_gives (length c.args.image.now) s c.args.arena.now c.args.addr c.args.val) c.read_image-read.result = on-image _ _ _ _ _ c.read_image-read.ensures in it)).goes_on c.if-read-ne0.false in
-    record { value = c.write_blocks_on.ensures.value ∙ word_of e; image_after = c.write_blocks_on.ensures.image_after ∙ image-of e; arena_after = c.write_blocks_on.ensures.arena_after ∙ lent_of e; directory_after = c.write_blocks_on.ensures.d_after ∙ ((let it : Places c.args.image.now c.args.directory.now (λ s. cpu_write_drops c.args.directory.now s c.args.arena.now c.args.addr c.args.val) c.read_image-read.result = places _ _ _ _ c.read_image-read.ensures in it)).made c.if-read-ne0.false }
+returns c =
+    let a = c.args in
+    let s = c.read_image-read.result.state in
+    let e = either-given s a.directory.now (cpu_own s a.arena.now a.addr) a.image.now a.arena.now
+    (write_gives (length a.image.now) s a.arena.now a.addr a.val)
+    ∙ (call a.image.now a.arena.now a.directory.now a.addr a.val c.read_image-read.ensures).goes_on c.if-read-ne0.false in
+    let made = (drops a.image.now a.arena.now a.directory.now a.addr a.val c.read_image-read.ensures).made c.if-read-ne0.false in
+    record {
+      value = c.write_blocks_on.ensures.value ∙ word_of e;
+      image_after = c.write_blocks_on.ensures.image_after ∙ image-of e;
+      arena_after = c.write_blocks_on.ensures.arena_after ∙ lent_of e;
+      directory_after = c.write_blocks_on.ensures.d_after ∙ made;
+    }

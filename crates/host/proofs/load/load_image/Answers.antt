@@ -1,47 +1,67 @@
 -- `load_image` meets its contract: refused by the image, refused by the load, and accepted.
-use mathlib.Core.Path.{◌≡◌, refl, sym, ap, ◌∙◌}
-use mathlib.Core.Bool.{true}
+use mathlib.Core.Path.{refl, sym, ap, ◌∙◌}
 use lib.ListN.{length}
 use borrow.Author.Rules.{rules}
-use borrow.Author.Tests.{not-true, not-false}
-use Rattle.call_refusals.specs.Refusals.{first_of, load_checks}
-use Rattle.image_write.specs.Options.{image_at, room_for}
+use Rattle.call_refusals.specs.Refusals.{load_checks}
+use Rattle.image_write.specs.Options.{image_at}
 use Rattle.thm_range.proofs.Refused.{load-refused}
-use Rattle.host_state.proofs.Laws.{Called, called, word_of, image-of, lent_of}
+use Rattle.host_state.proofs.Laws.{called, word_of, image-of, lent_of}
 use Rattle.host.specs.Host.{yes, load_gives, host_load_checks, host_load}
 use Rattle.host.proofs.Laws.{no_room, roomy, load-number, load-known, load_fresh, room-fresh}
 use Rattle.host.proofs.load.load_image.Goals as goal
 
 pub returns-then-not-room_for : goal.returns-then-not-room_for
 unfolding host_load
-returns-then-not-room_for c = let none = sym c.room_for.ensures ∙ not-true c.room_for.result c.if-not-room_for.true-raw in
-    let e = no_room c.args.options.f800_protects c.args.image.now
-    (load_checks c.args.mapper c.args.sizes (length c.args.arena.now)) c.args.arena.now ((load_gives (length c.args.image.now) c.args.arena.now c.args.mapper c.args.submapper c.args.flags c.args.known c.args.sizes c.args.options)) none in
+returns-then-not-room_for c =
+    let a = c.args in
+    let given = load_gives (length a.image.now) a.arena.now a.mapper a.submapper a.flags a.known a.sizes a.options in
+    let none = sym c.room_for.ensures ∙ c.if-not-room_for.true in
+    let own = load_checks a.mapper a.sizes (length a.arena.now) in
+    let e = no_room a.options.f800_protects a.image.now own a.arena.now given none in
     record { value = word_of e; image_after = image-of e; arena_after = lent_of e }
 
+-- here and below `number` is that of the load, and by `room-here` the bytes hold the image
 pub returns-then-loaded-ne0 : goal.returns-then-loaded-ne0
 unfolding host_load
-returns-then-loaded-ne0 c = let a = c.args in
-    let e = ((let it : Called (host_load_checks c.args.image.now c.args.arena.now c.args.mapper c.args.sizes c.args.options) c.args.image.now c.args.arena.now ((load_gives (length c.args.image.now) c.args.arena.now c.args.mapper c.args.submapper c.args.flags c.args.known c.args.sizes c.args.options)) ((load_gives (length c.args.image.now) c.args.arena.now c.args.mapper c.args.submapper c.args.flags c.args.known c.args.sizes c.args.options)) c.load-loaded.result.refusal = let a = c.args in
-    called _ _ _ _ _ _ ((let it : let a = c.args in c.load-loaded.result.refusal ≡ first_of (load_checks a.mapper a.sizes (length a.arena.now)) = let a = c.args in
-    load-number a.mapper a.submapper a.flags (yes a.known) a.sizes a.options a.arena.now _ c.load-loaded.ensures.0 in it) ∙ roomy a.options.f800_protects a.image.now _ ((let it : let a = c.args in room_for a.options.f800_protects (length a.image.now) ≡ true = sym c.room_for.ensures ∙ not-false c.room_for.result c.if-not-room_for.false-raw in it))) refl in it)).refused c.if-loaded-ne0.true in
+returns-then-loaded-ne0 c =
+    let a = c.args in
+    let load = c.load-loaded.ensures in
+    let given = load_gives (length a.image.now) a.arena.now a.mapper a.submapper a.flags a.known a.sizes a.options in
+    let number = load-number a.mapper a.submapper a.flags (yes a.known) a.sizes a.options a.arena.now _ load.0 in
+    let room-here = sym c.room_for.ensures ∙ c.if-not-room_for.false in
+    let passes = roomy a.options.f800_protects a.image.now (load_checks a.mapper a.sizes (length a.arena.now)) room-here in
+    let checks = host_load_checks a.image.now a.arena.now a.mapper a.sizes a.options in
+    let call = called checks a.image.now a.arena.now given given _ (number ∙ passes) refl in
+    let e = call.refused c.if-loaded-ne0.true in
     let kept = (load-refused a.mapper a.submapper a.flags (yes a.known) a.sizes a.options a.arena.now
-    (λ z. c.if-loaded-ne0.true ((let it : let a = c.args in c.load-loaded.result.refusal ≡ first_of (load_checks a.mapper a.sizes (length a.arena.now)) = let a = c.args in
-    load-number a.mapper a.submapper a.flags (yes a.known) a.sizes a.options a.arena.now _ c.load-loaded.ensures.0 in it) ∙ z))).1 in
-    record { value = word_of e; image_after = image-of e; arena_after = c.load-loaded.ensures.1 ∙ kept ∙ lent_of e }
+    (λ z. c.if-loaded-ne0.true (number ∙ z))).1 in
+    record { value = word_of e; image_after = image-of e; arena_after = load.1 ∙ kept ∙ lent_of e }
 
 pub put_image-requires : goal.put_image-requires
-put_image-requires c = let a = c.args in (
-  room-fresh a.mapper a.submapper a.flags (yes a.known) a.sizes a.options a.arena.now _ c.load-loaded.ensures.0 c.if-loaded-ne0.false
-      (length a.image.now) ((let it : let a = c.args in room_for a.options.f800_protects (length a.image.now) ≡ true = sym c.room_for.ensures ∙ not-false c.room_for.result c.if-not-room_for.false-raw in it)),
-  load-known a.mapper a.submapper a.flags (yes a.known) a.sizes a.options a.arena.now _ c.load-loaded.ensures.0 (search rules) c.if-loaded-ne0.false,
-)
+put_image-requires c =
+    let a = c.args in
+    let load = c.load-loaded.ensures.0 in
+    let z = c.if-loaded-ne0.false in
+    let room-here = sym c.room_for.ensures ∙ c.if-not-room_for.false in (
+      room-fresh a.mapper a.submapper a.flags (yes a.known) a.sizes a.options a.arena.now _ load z (length a.image.now) room-here,
+      load-known a.mapper a.submapper a.flags (yes a.known) a.sizes a.options a.arena.now _ load (search rules) z,
+    )
 
 pub returns : goal.returns
 unfolding host_load
-returns c = let a = c.args in
-    let e = ((let it : Called (host_load_checks c.args.image.now c.args.arena.now c.args.mapper c.args.sizes c.args.options) c.args.image.now c.args.arena.now ((load_gives (length c.args.image.now) c.args.arena.now c.args.mapper c.args.submapper c.args.flags c.args.known c.args.sizes c.args.options)) ((load_gives (length c.args.image.now) c.args.arena.now c.args.mapper c.args.submapper c.args.flags c.args.known c.args.sizes c.args.options)) c.load-loaded.result.refusal = let a = c.args in
-    called _ _ _ _ _ _ ((let it : let a = c.args in c.load-loaded.result.refusal ≡ first_of (load_checks a.mapper a.sizes (length a.arena.now)) = let a = c.args in
-    load-number a.mapper a.submapper a.flags (yes a.known) a.sizes a.options a.arena.now _ c.load-loaded.ensures.0 in it) ∙ roomy a.options.f800_protects a.image.now _ ((let it : let a = c.args in room_for a.options.f800_protects (length a.image.now) ≡ true = sym c.room_for.ensures ∙ not-false c.room_for.result c.if-not-room_for.false-raw in it))) refl in it)).accepted c.if-loaded-ne0.false in
-    let fresh = load_fresh a.mapper a.submapper a.flags (yes a.known) a.sizes a.options a.arena.now _ c.load-loaded.ensures.0 c.if-loaded-ne0.false in
-    record { value = word_of e; image_after = c.put_image.ensures ∙ ap (image_at (length a.image.now)) fresh ∙ image-of e; arena_after = c.load-loaded.ensures.1 ∙ lent_of e }
+returns c =
+    let a = c.args in
+    let load = c.load-loaded.ensures in
+    let given = load_gives (length a.image.now) a.arena.now a.mapper a.submapper a.flags a.known a.sizes a.options in
+    let number = load-number a.mapper a.submapper a.flags (yes a.known) a.sizes a.options a.arena.now _ load.0 in
+    let room-here = sym c.room_for.ensures ∙ c.if-not-room_for.false in
+    let passes = roomy a.options.f800_protects a.image.now (load_checks a.mapper a.sizes (length a.arena.now)) room-here in
+    let checks = host_load_checks a.image.now a.arena.now a.mapper a.sizes a.options in
+    let call = called checks a.image.now a.arena.now given given _ (number ∙ passes) refl in
+    let e = call.accepted c.if-loaded-ne0.false in
+    let fresh = load_fresh a.mapper a.submapper a.flags (yes a.known) a.sizes a.options a.arena.now _ load.0 c.if-loaded-ne0.false in
+    record {
+      value = word_of e;
+      image_after = c.put_image.ensures ∙ ap (image_at (length a.image.now)) fresh ∙ image-of e;
+      arena_after = load.1 ∙ lent_of e;
+    }
