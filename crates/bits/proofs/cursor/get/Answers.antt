@@ -12,7 +12,6 @@ use Rattle.bits.proofs.Fields.{after_one}
 use Rattle.bits.proofs.cursor.Laws.{get-bits, got-lt}
 use Rattle.bits.proofs.cursor.get.Goals as goal
 
--- `bits::cursor::get` meets its contract.
 -- the bits held are few
 held-lt : (N n held : ℕ) → held ≡ N % 2 ^ n → held < 2 ^ n
 held-lt N n held e = rw e (mod-lt N (pow_pos n))
@@ -21,14 +20,20 @@ byte : (N n held : ℕ) → n < 8 → held ≡ N % 2 ^ n → held < 256
 byte N n held l e = lt_of_lt_of_le (held-lt N n held e) (pow_mono {i = n} {j = 8} (omega arith))
 
 pub load-acc-requires : goal.load-acc-requires
-load-acc-requires c = (omega arith, byte (word_of (take c.args.r.at c.args.img.now)) c.args.r.n c.args.r.acc c.requires.behind.few c.requires.behind.last, omega arith)
+load-acc-requires c = (
+  omega arith,
+  byte (word_of (take c.args.r.at c.args.img.now)) c.args.r.n c.args.r.acc c.requires.behind.few c.requires.behind.last,
+  omega arith,
+)
 
 pub returns : goal.returns
 unfolding bits_read total
-returns c = let k = (c.args.width + 7 - c.args.r.n) / 8 in
+returns c =
+    let k = (c.args.width + 7 - c.args.r.n) / 8 in
     let m = c.args.r.n + k * 8 - c.args.width in
     let e : m + c.args.width ≡ c.args.r.n + k * 8 = omega arith in
-    let all = get-bits c.args.img.now c.args.r.at c.args.r.n c.args.r.acc c.args.width k m c.load-acc.result e (omega arith) c.requires.behind.last c.load-acc.ensures.value in
+    let all = get-bits c.args.img.now c.args.r.at c.args.r.n c.args.r.acc c.args.width k m c.load-acc.result e (omega arith)
+    c.requires.behind.last c.load-acc.ensures.value in
     let under : c.load-acc.result % 2 ^ m < 2 ^ m = mod-lt c.load-acc.result (pow_pos m) in
     record {
       behind = record {
@@ -38,7 +43,8 @@ returns c = let k = (c.args.width + 7 - c.args.r.n) / 8 in
       };
       pos = omega arith;
       fit = (
-        got-lt c.args.r.acc c.args.r.n c.args.width k m c.load-acc.result e (held-lt (word_of (take c.args.r.at c.args.img.now)) c.args.r.n c.args.r.acc c.requires.behind.last)
+        got-lt c.args.r.acc c.args.r.n c.args.width k m c.load-acc.result e
+            (held-lt (word_of (take c.args.r.at c.args.img.now)) c.args.r.n c.args.r.acc c.requires.behind.last)
             c.load-acc.ensures.upper_bound,
         tt,
       );

@@ -17,7 +17,12 @@ get-g-requires c = record {
   behind = c.loop-i.invariant.2.behind;
   width_bound = (
     omega arith,
-    omega (arith, c.loop-i.invariant.2.pos, total-replicate c.loop-i.i c.args.width, room c.loop-i.i (length c.args.xs.now) c.args.width (omega arith)),
+    omega (
+      arith,
+      c.loop-i.invariant.2.pos,
+      total-replicate c.loop-i.i c.args.width,
+      room c.loop-i.i (length c.args.xs.now) c.args.width (omega arith),
+    ),
   );
 }
 
@@ -33,6 +38,7 @@ loop-i-preserved c = (
 )
 
 pub returns : goal.returns
-returns c = let e : c.loop-i.i ≡ length c.loop-i.xs = omega arith in
+returns c =
+    let e : c.loop-i.i ≡ length c.loop-i.xs = omega arith in
     let f : length c.loop-i.xs ≡ length c.args.xs.now = c.loop-i.invariant.1 in
     rw f at (rw (e, take-length c.loop-i.xs) at c.loop-i.invariant.2)

@@ -6,7 +6,9 @@ use Rattle.bits.specs.Cursor.{Read}
 use Rattle.bits.proofs.cursor.get_run.Given as goal
 
 abbrev pub invariant-loop-i : goal.invariant-loop-i
-invariant-loop-i l = (l.i ≤ length l.xs) × (length l.xs ≡ length l.initial.xs) × Read l.img l.initial.c l.c (replicate l.i l.width) (take l.i l.xs)
+invariant-loop-i l =
+    (l.i ≤ length l.xs) × (length l.xs ≡ length l.initial.xs)
+    × Read l.img l.initial.c l.c (replicate l.i l.width) (take l.i l.xs)
 
 abbrev pub decreases-loop-i : goal.decreases-loop-i
 decreases-loop-i l = length l.initial.xs - l.i

@@ -18,12 +18,15 @@ pub overflow_add-acc : goal.overflow_add-acc
 overflow_add-acc c = record {
   fits =
       rw (acc-exact c.args.w.acc c.args.w.n c.args.width c.requires.held.few (omega arith) c.requires.held.small)
-      (fits63 _ (c.args.w.n + c.args.width) (acc_lt c.args.w.acc c.args.w.n c.args.width c.args.v c.requires.held.small c.requires.width_bound.1) (omega arith));
+      (fits63 _ (c.args.w.n + c.args.width)
+      (acc_lt c.args.w.acc c.args.w.n c.args.width c.args.v c.requires.held.small c.requires.width_bound.1)
+      (omega arith));
 }
 
 pub returns : goal.returns
 unfolding bits_written total
-returns c = let n = c.args.w.n + c.args.width in
+returns c =
+    let n = c.args.w.n + c.args.width in
     let acc : ℕ = (c.args.w.acc * 2 ^ c.args.width) % 2 ^ 64 + c.args.v in
     let e : acc ≡ c.args.w.acc * 2 ^ c.args.width + c.args.v =
     ap (λ (x : ℕ). x + c.args.v) (acc-exact c.args.w.acc c.args.w.n c.args.width c.requires.held.few (omega arith) c.requires.held.small) in
