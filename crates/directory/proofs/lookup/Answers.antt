@@ -10,8 +10,15 @@ returns-then-not-fit c = rw (← c.fit.ensures, not-true c.fit.result c.if-not-f
 
 pub returns-then-start-lt18432 : goal.returns-then-start-lt18432
 unfolding lookup
-returns-then-start-lt18432 c = rw ((sym c.fit.ensures ∙ not-false c.fit.result c.if-not-fit.false-raw), lt-ltb _ _ c.if-start-lt18432.true)
+returns-then-start-lt18432 c = rw (sym c.fit.ensures ∙ not-false c.fit.result c.if-not-fit.false-raw, lt-ltb _ _ c.if-start-lt18432.true)
 
 pub returns : goal.returns
 unfolding lookup
-returns c = rw ((sym c.fit.ensures ∙ not-false c.fit.result c.if-not-fit.false-raw), le-ltb _ _ c.if-start-lt18432.false, c.number_of.ensures, c.len_of.ensures, c.find-w.ensures)
+returns c =
+    rw (
+      sym c.fit.ensures ∙ not-false c.fit.result c.if-not-fit.false-raw,
+      le-ltb _ _ c.if-start-lt18432.false,
+      c.number_of.ensures,
+      c.len_of.ensures,
+      c.find-w.ensures,
+    )

@@ -20,10 +20,12 @@ pub overflow_add-j : goal.overflow_add-j
 overflow_add-j c = record { fits = omega (arith, c.loop-i.invariant.read) }
 
 pub loop-i-preserved-then-not-gone : goal.loop-i-preserved-then-not-gone
-loop-i-preserved-then-not-gone c = packed-stays c.loop-i.invariant (omega arith) (sym c.gone.ensures ∙ not-true c.gone.result c.if-not-gone.true-raw)
+loop-i-preserved-then-not-gone c =
+    packed-stays c.loop-i.invariant (omega arith) (sym c.gone.ensures ∙ not-true c.gone.result c.if-not-gone.true-raw)
 
 pub loop-i-preserved : goal.loop-i-preserved
-loop-i-preserved c = packed-gone c.loop-i.invariant (omega arith) (sym c.gone.ensures ∙ not-false c.gone.result c.if-not-gone.false-raw)
+loop-i-preserved c =
+    packed-gone c.loop-i.invariant (omega arith) (sym c.gone.ensures ∙ not-false c.gone.result c.if-not-gone.false-raw)
 
 pub shape_of-d : goal.shape_of-d
 shape_of-d c = c.loop-i.invariant.long

@@ -6,17 +6,19 @@ use Rattle.directory.proofs.Laws.Pages.{fits-says}
 use Rattle.directory.proofs.pages.pages_under.Goals as goal
 
 pub overflow_sub-last : goal.overflow_sub-last
-overflow_sub-last c = omega (arith, (fits-says c.args.start c.args.len c.requires))
+overflow_sub-last c = omega (arith, fits-says c.args.start c.args.len c.requires)
 
 pub overflow_sub-ones : goal.overflow_sub-ones
-overflow_sub-ones c = omega (arith, (fits-says c.args.start c.args.len c.requires))
+overflow_sub-ones c = omega (arith, fits-says c.args.start c.args.len c.requires)
 
 pub overflow_shl-ones : goal.overflow_shl-ones
-overflow_shl-ones c = omega (arith, (fits-says c.args.start c.args.len c.requires))
+overflow_shl-ones c = omega (arith, fits-says c.args.start c.args.len c.requires)
 
 pub overflow_sub-ones-2 : goal.overflow_sub-ones-2
-overflow_sub-ones-2 c = one-shl-pos _ (omega (arith, (fits-says c.args.start c.args.len c.requires)))
+overflow_sub-ones-2 c = one-shl-pos _ (omega (arith, fits-says c.args.start c.args.len c.requires))
 
 pub returns : goal.returns
 unfolding pages_under
-returns c = ones_shl _ (c.args.start / 1024) (omega (arith, (fits-says c.args.start c.args.len c.requires))) (omega (arith, (fits-says c.args.start c.args.len c.requires)))
+returns c =
+    let e = fits-says c.args.start c.args.len c.requires in
+    ones_shl _ (c.args.start / 1024) (omega (arith, e)) (omega (arith, e))
