@@ -10,14 +10,19 @@ use borrow.Author.Rules.{rules}
 use Rattle.image_write.proofs.pages.put_eight.Goals as goal
 
 pub quad_word-requires : goal.quad_word-requires
-quad_word-requires c = (c.requires.1 0 (omega arith), c.requires.1 1 (omega arith), c.requires.1 2 (omega arith), c.requires.1 3 (omega arith))
+quad_word-requires c =
+    (c.requires.1 0 (omega arith), c.requires.1 1 (omega arith), c.requires.1 2 (omega arith), c.requires.1 3 (omega arith))
 
 pub quad_word-requires-2 : goal.quad_word-requires-2
-quad_word-requires-2 c = (c.requires.1 4 (omega arith), c.requires.1 5 (omega arith), c.requires.1 6 (omega arith), c.requires.1 7 (omega arith))
+quad_word-requires-2 c =
+    (c.requires.1 4 (omega arith), c.requires.1 5 (omega arith), c.requires.1 6 (omega arith), c.requires.1 7 (omega arith))
 
 pub put-requires : goal.put-requires
 unfolding total
-put-requires c = record { held = c.put-d.ensures.held; width_bound = (omega arith, c.quad_word-2.ensures.1, omega (arith, c.put-d.ensures.pos, c.put-d.ensures.len)) }
+put-requires c = record {
+  held = c.put-d.ensures.held;
+  width_bound = (omega arith, c.quad_word-2.ensures.1, omega (arith, c.put-d.ensures.pos, c.put-d.ensures.len));
+}
 
 pub returns : goal.returns
 returns c =

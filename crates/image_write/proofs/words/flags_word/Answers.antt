@@ -24,7 +24,8 @@ loop-i-preserved c = (
   omega arith,
   c.loop-i.invariant.1,
   ap (λ (x : ℕ). c.loop-i.word * 2 + x) c.bit_of.ensures.0
-      ∙ ap (λ (x : ℕ). x * 2 + bit (get_or c.args.flags c.loop-i.i _)) c.loop-i.invariant.2 ∙ sym (flags-more c.args.flags c.loop-i.i (omega arith)),
+      ∙ ap (λ (x : ℕ). x * 2 + bit (get_or c.args.flags c.loop-i.i _)) c.loop-i.invariant.2
+      ∙ sym (flags-more c.args.flags c.loop-i.i (omega arith)),
   doubled c.loop-i.word c.bit_of.result c.loop-i.i c.loop-i.invariant.3 c.bit_of.ensures.1,
 )
 

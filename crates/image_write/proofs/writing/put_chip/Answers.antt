@@ -49,7 +49,8 @@ banks_word-requires c = (c.requires.1 0, c.requires.1 1, c.requires.1 2)
 pub put-requires : goal.put-requires
 unfolding total
 put-requires c =
-    let a = after 70 c.put_chr_banks-w4.ensures (after 58 c.put-w3.ensures (after 53 c.put-w2.ensures (after 0 c.put-w1.ensures (refl, c.requires.0)))) in
+    let a = after 70 c.put_chr_banks-w4.ensures
+    (after 58 c.put-w3.ensures (after 53 c.put-w2.ensures (after 0 c.put-w1.ensures (refl, c.requires.0)))) in
     record { held = c.put_chr_banks-w4.ensures.held; width_bound = (omega arith, c.banks_word.ensures.1, omega (arith, a.0, a.1)) }
 
 -- ---- the parts together

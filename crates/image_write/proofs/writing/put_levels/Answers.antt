@@ -41,8 +41,8 @@ loop-i-preserved c = (
   omega arith,
   c.loop-i.invariant.1,
   omega arith,
-  wrote-suc c.args.img.now c.loop-i.img c.put-c.new.img (byte_at levels_at) c.loop-i.c c.put-c.result 12 (map level_num c.args.outs) c.loop-i.i
-      (rw length-map (omega arith)) c.loop-i.invariant.3
+  wrote-suc c.args.img.now c.loop-i.img c.put-c.new.img (byte_at levels_at) c.loop-i.c c.put-c.result 12
+      (map level_num c.args.outs) c.loop-i.i (rw length-map (omega arith)) c.loop-i.invariant.3
       (rw (get_d_map level_num c.args.outs c.loop-i.i nan 0 (omega arith), ← c.whole_part.ensures.0) c.put-c.ensures),
 )
 
@@ -50,4 +50,5 @@ pub returns : goal.returns
 unfolding total
 returns c =
     let e : c.loop-i.i ≡ 8 = omega arith in
-    wrote-to _ _ levels_at out_at _ _ _ (omega arith) (rw (e, take_all 8 (map level_num c.args.outs) (rw length-map (omega arith))) at c.loop-i.invariant.3)
+    wrote-to _ _ levels_at out_at _ _ _ (omega arith)
+    (rw (e, take_all 8 (map level_num c.args.outs) (rw length-map (omega arith))) at c.loop-i.invariant.3)

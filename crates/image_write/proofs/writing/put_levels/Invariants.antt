@@ -9,7 +9,9 @@ use Rattle.image_write.specs.Sections.{levels_at}
 use Rattle.image_write.proofs.writing.put_levels.Given as goal
 
 abbrev pub invariant-loop-i : goal.invariant-loop-i
-invariant-loop-i l = (l.i ≤ 8) × (length l.outs ≡ 8) × (length l.img ≡ length l.initial.img) × Wrote l.initial.img l.img (byte_at levels_at) l.c (replicate l.i 12)
+invariant-loop-i l =
+    (l.i ≤ 8) × (length l.outs ≡ 8) × (length l.img ≡ length l.initial.img)
+    × Wrote l.initial.img l.img (byte_at levels_at) l.c (replicate l.i 12)
     (take l.i (map level_num l.outs))
 
 abbrev pub decreases-loop-i : goal.decreases-loop-i

@@ -21,12 +21,14 @@ put_memory-requires c = (search rules, c.requires.1.range.memory)
 
 pub returns : goal.returns
 unfolding image_of widths fields
-returns c = let chips : SameLengths chip_widths (chip_fields c.args.s.chip) =
-    refl then refl then sym (length-map c.args.s.chip.nt_bank_enable bit ∙ c.requires.1.typed.chip.flags) then sym c.requires.1.typed.chip.chr
-    then sym c.requires.1.typed.chip.prg then tt in
+returns c =
+    let chips : SameLengths chip_widths (chip_fields c.args.s.chip) =
+    refl then refl then sym (length-map c.args.s.chip.nt_bank_enable bit ∙ c.requires.1.typed.chip.flags)
+    then sym c.requires.1.typed.chip.chr then sym c.requires.1.typed.chip.prg then tt in
     let sounds : SameLengths sound_widths (sound_fields c.args.s.chip.audio) =
-    sym c.requires.1.typed.chip.audio.ram_length then refl then sym (length-map c.args.s.chip.audio.channel_out level_num ∙ c.requires.1.typed.chip.audio.outputs_length) then refl
-    then sym c.requires.1.typed.chip.audio.phases_length then tt in
+    sym c.requires.1.typed.chip.audio.ram_length then refl
+    then sym (length-map c.args.s.chip.audio.channel_out level_num ∙ c.requires.1.typed.chip.audio.outputs_length)
+    then refl then sym c.requires.1.typed.chip.audio.phases_length then tt in
     let all = wrote-parts _ _ _ _ _ _ chip_widths (chip_fields c.args.s.chip) _ _ chips c.put_chip.ensures
     (wrote-parts _ _ _ _ _ _ sound_widths (sound_fields c.args.s.chip.audio) memory_widths (memory_fields c.args.s.memory) sounds
     c.put_sound.ensures c.put_memory.ensures) in

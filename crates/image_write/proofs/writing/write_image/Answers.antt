@@ -15,7 +15,8 @@ put_image-requires c = (
 
 pub returns-then-in_range : goal.returns-then-in_range
 returns-then-in_range c =
-    let a = accepted c.args.s c.args.img.now (sym c.room_for.ensures ∙ c.if-not-room_for.false) (sym c.in_range.ensures ∙ c.if-in_range.true) in
+    let a = accepted c.args.s c.args.img.now (sym c.room_for.ensures ∙ c.if-not-room_for.false)
+    (sym c.in_range.ensures ∙ c.if-in_range.true) in
     (a.0, c.put_image.ensures ∙ a.1)
 
 pub returns : goal.returns
