@@ -23,16 +23,20 @@ returns-in-PrgRom c = bounded c.args.self c.args.battery_ext_len c.args.src _ c.
 
 pub returns-in-PrgRam : goal.returns-in-PrgRam
 unfolding region_of
-returns-in-PrgRam c = bounded c.args.self c.args.battery_ext_len c.args.src _ c.requires.0 c.requires.1 (rw (c.in-PrgRam.is, c.ram_page.ensures.0))
+returns-in-PrgRam c =
+    bounded c.args.self c.args.battery_ext_len c.args.src _ c.requires.0 c.requires.1 (rw (c.in-PrgRam.is, c.ram_page.ensures.0))
 
 pub returns-in-BatteryExt : goal.returns-in-BatteryExt
 unfolding region_of
-returns-in-BatteryExt c = bounded c.args.self c.args.battery_ext_len c.args.src _ c.requires.0 c.requires.1 (rw (c.in-BatteryExt.is, c.battery_page.ensures.0))
+returns-in-BatteryExt c =
+    bounded c.args.self c.args.battery_ext_len c.args.src _ c.requires.0 c.requires.1 (rw (c.in-BatteryExt.is, c.battery_page.ensures.0))
 
 pub returns-in-Chr : goal.returns-in-Chr
 unfolding region_of
-returns-in-Chr c = bounded c.args.self c.args.battery_ext_len c.args.src _ c.requires.0 c.requires.1 (rw (c.in-Chr.is, c.chr_page.ensures.0))
+returns-in-Chr c =
+    bounded c.args.self c.args.battery_ext_len c.args.src _ c.requires.0 c.requires.1 (rw (c.in-Chr.is, c.chr_page.ensures.0))
 
 pub returns-in-CiRam : goal.returns-in-CiRam
 unfolding region_of
-returns-in-CiRam c = bounded c.args.self c.args.battery_ext_len c.args.src _ c.requires.0 c.requires.1 (rw (c.in-CiRam.is, c.ciram_page.ensures.0))
+returns-in-CiRam c =
+    bounded c.args.self c.args.battery_ext_len c.args.src _ c.requires.0 c.requires.1 (rw (c.in-CiRam.is, c.ciram_page.ensures.0))
