@@ -9,8 +9,14 @@ use Rattle.memory_map.proofs.windows.window_base.Goals as goal
 
 pub overflow_mul-result : goal.overflow_mul-result
 unfolding window_base
-overflow_mul-result c = record { fits = rw ((let it : c.bank_index.result * c.args.size ≡ window_base c.args.len c.args.size c.args.bank = rw (c.bank_index.ensures, to_z-of_z c.ranges.bank, c.banks.ensures.0) in it)) (omega (arith, base-le c.args.len c.args.size c.args.bank)) }
+overflow_mul-result c =
+    let base : c.bank_index.result * c.args.size ≡ window_base c.args.len c.args.size c.args.bank =
+    rw (c.bank_index.ensures, to_z-of_z c.ranges.bank, c.banks.ensures.0) in
+    record { fits = rw base (omega (arith, base-le c.args.len c.args.size c.args.bank)) }
 
 pub returns : goal.returns
 unfolding window_base
-returns c = ((let it : c.bank_index.result * c.args.size ≡ window_base c.args.len c.args.size c.args.bank = rw (c.bank_index.ensures, to_z-of_z c.ranges.bank, c.banks.ensures.0) in it), rw ((let it : c.bank_index.result * c.args.size ≡ window_base c.args.len c.args.size c.args.bank = rw (c.bank_index.ensures, to_z-of_z c.ranges.bank, c.banks.ensures.0) in it)) (base-le c.args.len c.args.size c.args.bank))
+returns c =
+    let base : c.bank_index.result * c.args.size ≡ window_base c.args.len c.args.size c.args.bank =
+    rw (c.bank_index.ensures, to_z-of_z c.ranges.bank, c.banks.ensures.0) in
+    (base, rw base (base-le c.args.len c.args.size c.args.bank))
