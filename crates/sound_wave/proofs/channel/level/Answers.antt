@@ -4,7 +4,12 @@ use Rattle.limits.specs.Limits.{level_most}
 use Rattle.sound_wave.proofs.channel.level.Goals as goal
 
 pub overflow_mul-result : goal.overflow_mul-result
-overflow_mul-result c = let h = (let it : c.wrapping_sub_u8-wrapped.result * c.args.volume ≤ level_most = mul-le-mul {n₂ = 255} {m₂ = 15} (omega arith) (omega arith) in it) in omega arith
+overflow_mul-result c =
+    let small : c.wrapping_sub_u8-wrapped.result * c.args.volume ≤ level_most =
+    mul-le-mul {n₂ = 255} {m₂ = 15} (omega arith) (omega arith) in omega arith
 
 pub returns : goal.returns
-returns c = (ap (λ (x : ℕ). x * c.args.volume) (omega arith), (let it : c.wrapping_sub_u8-wrapped.result * c.args.volume ≤ level_most = mul-le-mul {n₂ = 255} {m₂ = 15} (omega arith) (omega arith) in it))
+returns c =
+    let small : c.wrapping_sub_u8-wrapped.result * c.args.volume ≤ level_most =
+    mul-le-mul {n₂ = 255} {m₂ = 15} (omega arith) (omega arith) in
+    (ap (λ (x : ℕ). x * c.args.volume) (omega arith), small)

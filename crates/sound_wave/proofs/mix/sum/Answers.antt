@@ -9,7 +9,10 @@ loop-i-init c = (omega arith, refl)
 
 pub loop-i-preserved : goal.loop-i-preserved
 unfolding sum_from
-loop-i-preserved c = (omega arith, rw (drop-cons c.args.outs.now c.loop-i.i nan (omega arith), ← add-one c.loop-i.i) at c.loop-i.invariant.1)
+loop-i-preserved c = (
+  omega arith,
+  rw (drop-cons c.args.outs.now c.loop-i.i nan (omega arith), ← add-one c.loop-i.i) at c.loop-i.invariant.1,
+)
 
 pub returns : goal.returns
 unfolding sum_of sum_from
