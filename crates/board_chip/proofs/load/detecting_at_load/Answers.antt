@@ -13,12 +13,26 @@ returns-then-mapper-ne210 c = rw (ne_eqb _ _ c.if-mapper-eq19.false, ne_eqb _ _ 
 
 pub returns-then-submapper-eq1 : goal.returns-then-submapper-eq1
 unfolding detecting_at_load
-returns-then-submapper-eq1 c = rw (ne_eqb _ _ c.if-mapper-eq19.false, eq-eqb _ _ c.if-mapper-ne210.false, eq-eqb _ _ c.if-submapper-eq1.true)
+returns-then-submapper-eq1 c = rw (
+  ne_eqb _ _ c.if-mapper-eq19.false,
+  eq-eqb _ _ c.if-mapper-ne210.false,
+  eq-eqb _ _ c.if-submapper-eq1.true,
+)
 
 pub returns-then-submapper-eq2 : goal.returns-then-submapper-eq2
 unfolding detecting_at_load
-returns-then-submapper-eq2 c = rw (ne_eqb _ _ c.if-mapper-eq19.false, eq-eqb _ _ c.if-mapper-ne210.false, ne_eqb _ _ c.if-submapper-eq1.false, eq-eqb _ _ c.if-submapper-eq2.true)
+returns-then-submapper-eq2 c = rw (
+  ne_eqb _ _ c.if-mapper-eq19.false,
+  eq-eqb _ _ c.if-mapper-ne210.false,
+  ne_eqb _ _ c.if-submapper-eq1.false,
+  eq-eqb _ _ c.if-submapper-eq2.true,
+)
 
 pub returns : goal.returns
 unfolding detecting_at_load
-returns c = rw (ne_eqb _ _ c.if-mapper-eq19.false, eq-eqb _ _ c.if-mapper-ne210.false, ne_eqb _ _ c.if-submapper-eq1.false, ne_eqb _ _ c.if-submapper-eq2.false)
+returns c = rw (
+  ne_eqb _ _ c.if-mapper-eq19.false,
+  eq-eqb _ _ c.if-mapper-ne210.false,
+  ne_eqb _ _ c.if-submapper-eq1.false,
+  ne_eqb _ _ c.if-submapper-eq2.false,
+)

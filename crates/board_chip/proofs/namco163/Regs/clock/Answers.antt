@@ -14,8 +14,18 @@ returns-then-counter c = rw c.if-counter.true
 
 pub returns-then-next : goal.returns-then-next
 unfolding clock_counter next_counter rises_from moves
-returns-then-next c = rw (le-ltb _ _ c.if-counter-lt32768.false, ne_eqb _ _ c.if-counter.false, ← c.wrapping_add_u16-next.ensures.value, eq-eqb _ _ c.if-next.true)
+returns-then-next c = rw (
+  le-ltb _ _ c.if-counter-lt32768.false,
+  ne_eqb _ _ c.if-counter.false,
+  ← c.wrapping_add_u16-next.ensures.value,
+  eq-eqb _ _ c.if-next.true,
+)
 
 pub returns-else-next : goal.returns-else-next
 unfolding clock_counter next_counter rises_from moves
-returns-else-next c = rw (le-ltb _ _ c.if-counter-lt32768.false, ne_eqb _ _ c.if-counter.false, ← c.wrapping_add_u16-next.ensures.value, ne_eqb _ _ c.if-next.false)
+returns-else-next c = rw (
+  le-ltb _ _ c.if-counter-lt32768.false,
+  ne_eqb _ _ c.if-counter.false,
+  ← c.wrapping_add_u16-next.ensures.value,
+  ne_eqb _ _ c.if-next.false,
+)
