@@ -8,7 +8,13 @@ returns-then-is_340 c = rw (← c.is_340.ensures, c.if-is_340.true, c.with_mirro
 
 pub returns-then-is_163 : goal.returns-then-is_163
 unfolding high_bits_e000
-returns-then-is_163 c = rw (← c.is_340.ensures, c.if-is_340.false, ← c.is_163.ensures, c.if-is_163.true, c.write_register-written.ensures)
+returns-then-is_163 c = rw (
+  ← c.is_340.ensures,
+  c.if-is_340.false,
+  ← c.is_163.ensures,
+  c.if-is_163.true,
+  c.write_register-written.ensures,
+)
 
 pub returns : goal.returns
 unfolding high_bits_e000
