@@ -1,10 +1,7 @@
 -- `arena_refusal_known` meets its contract.
-use mathlib.Core.Path.{◌≡◌}
-use mathlib.Core.Bool.{cond, not}
 use borrow.Author.Tests.{eq-eqb, ne_eqb}
-use lib.Dec.{eqb}
 use Rattle.board_state.proofs.Range.{memory-good}
-use Rattle.call_refusals.specs.Refusals.{first_of, arena_checks}
+use Rattle.call_refusals.specs.Refusals.{first_of}
 use Rattle.call_refusals.proofs.arena_refusal_known.Goals as goal
 
 pub arena_len-requires : goal.arena_len-requires
@@ -12,8 +9,8 @@ arena_len-requires c = (memory-good _ c.requires).ranged.sized.layout
 
 pub returns-then-len-arena_len : goal.returns-then-len-arena_len
 unfolding first_of
-returns-then-len-arena_len c = rw ((let it : first_of (arena_checks c.args.s c.args.len) ≡ cond (not (eqb c.args.len c.arena_len.result)) 7 0 = rw (c.requires, ← c.arena_len.ensures.0) in it), eq-eqb _ _ c.if-len-arena_len.true)
+returns-then-len-arena_len c = rw (c.requires, ← c.arena_len.ensures.0, eq-eqb _ _ c.if-len-arena_len.true)
 
 pub returns : goal.returns
 unfolding first_of
-returns c = rw ((let it : first_of (arena_checks c.args.s c.args.len) ≡ cond (not (eqb c.args.len c.arena_len.result)) 7 0 = rw (c.requires, ← c.arena_len.ensures.0) in it), ne_eqb _ _ c.if-len-arena_len.false)
+returns c = rw (c.requires, ← c.arena_len.ensures.0, ne_eqb _ _ c.if-len-arena_len.false)

@@ -1,10 +1,8 @@
 -- `load_refusal` meets its contract, check by check.
-use mathlib.Core.Path.{◌≡◌, sym, ◌∙◌}
-use mathlib.Core.Bool.{cond, not}
+use mathlib.Core.Path.{sym, ◌∙◌}
 use borrow.Author.Tests.{eq-eqb, ne_eqb}
-use lib.Dec.{eqb}
 use Rattle.memory.proofs.Laws.Layout.{layout-good}
-use Rattle.call_refusals.specs.Refusals.{first_of, load_checks}
+use Rattle.call_refusals.specs.Refusals.{first_of}
 use Rattle.call_refusals.proofs.load_refusal.Goals as goal
 
 pub returns-then-lacks_reserve : goal.returns-then-lacks_reserve
@@ -24,32 +22,28 @@ arena_len-requires c = rw c.new-layout.ensures (layout-good _ (sym c.within_limi
 pub returns-then-len-arena_len : goal.returns-then-len-arena_len
 unfolding first_of
 returns-then-len-arena_len c = rw (
-  (let it : first_of (load_checks c.args.mapper c.args.sizes c.args.len) ≡ cond (not (eqb c.args.len c.arena_len.result)) 7 0 = rw (
-    ← c.mapper_ok.ensures,
-    c.if-mapper_ok.true,
-    ← c.within_limits.ensures,
-    c.if-within_limits.true,
-    ← c.lacks_reserve.ensures,
-    c.if-lacks_reserve.false,
-    ← c.new-layout.ensures,
-    ← c.arena_len.ensures.0,
-  ) in it),
+  ← c.mapper_ok.ensures,
+  c.if-mapper_ok.true,
+  ← c.within_limits.ensures,
+  c.if-within_limits.true,
+  ← c.lacks_reserve.ensures,
+  c.if-lacks_reserve.false,
+  ← c.new-layout.ensures,
+  ← c.arena_len.ensures.0,
   eq-eqb _ _ c.if-len-arena_len.true,
 )
 
 pub returns-then-within_limits : goal.returns-then-within_limits
 unfolding first_of
 returns-then-within_limits c = rw (
-  (let it : first_of (load_checks c.args.mapper c.args.sizes c.args.len) ≡ cond (not (eqb c.args.len c.arena_len.result)) 7 0 = rw (
-    ← c.mapper_ok.ensures,
-    c.if-mapper_ok.true,
-    ← c.within_limits.ensures,
-    c.if-within_limits.true,
-    ← c.lacks_reserve.ensures,
-    c.if-lacks_reserve.false,
-    ← c.new-layout.ensures,
-    ← c.arena_len.ensures.0,
-  ) in it),
+  ← c.mapper_ok.ensures,
+  c.if-mapper_ok.true,
+  ← c.within_limits.ensures,
+  c.if-within_limits.true,
+  ← c.lacks_reserve.ensures,
+  c.if-lacks_reserve.false,
+  ← c.new-layout.ensures,
+  ← c.arena_len.ensures.0,
   ne_eqb _ _ c.if-len-arena_len.false,
 )
 
