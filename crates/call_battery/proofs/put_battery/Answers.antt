@@ -9,7 +9,9 @@ use mathlib.Core.List.{◌++◌}
 use Rattle.call_battery.proofs.put_battery.Goals as goal
 
 pub returns : goal.returns
-returns c = rw c.put_ram.ensures (subst
-    (λ (n : ℕ). take c.args.at c.args.arena.now ++ (c.args.audio.ram ++ drop (c.args.at + n - c.args.at) (drop c.args.at c.args.arena.now))
-    ≡ overlay c.args.arena.now c.args.at c.args.audio.ram) (typed c.args.audio _ c.well_formed.1.1.0).ram_length
-    (overlay-back c.args.arena.now c.args.audio.ram c.args.at))
+returns c =
+    let now = c.args.arena.now in let at = c.args.at in let ram = c.args.audio.ram in
+    rw c.put_ram.ensures (subst
+    (λ (n : ℕ). take at now ++ (ram ++ drop (at + n - at) (drop at now)) ≡ overlay now at ram)
+    (typed c.args.audio _ c.well_formed.1.1.0).ram_length
+    (overlay-back now ram at))

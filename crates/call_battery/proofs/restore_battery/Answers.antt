@@ -12,12 +12,17 @@ pub returns-then-q-ne0 : goal.returns-then-q-ne0
 unfolding restore_state
 returns-then-q-ne0 c = rw (← c.battery_refusal-q.ensures, ne_eqb _ _ c.if-q-ne0.true)
 
+-- none of the checks holds
 pub battery_start-at-requires : goal.battery_start-at-requires
-battery_start-at-requires c = (memory-good _ (battery-good _ _ ((let it : first_of (battery_checks c.args.s (length c.args.arena.now)) ≡ 0 = sym c.battery_refusal-q.ensures ∙ c.if-q-ne0.false in it))).arena.good).ranged.sized
+battery_start-at-requires c =
+    let accepted : first_of (battery_checks c.args.s (length c.args.arena.now)) ≡ 0 = sym c.battery_refusal-q.ensures ∙ c.if-q-ne0.false in
+    (memory-good _ (battery-good _ _ accepted).arena.good).ranged.sized
 
 pub get_battery-ram-requires : goal.get_battery-ram-requires
-get_battery-ram-requires c = rw c.battery_start-at.ensures (battery-good _ _ ((let it : first_of (battery_checks c.args.s (length c.args.arena.now)) ≡ 0 = sym c.battery_refusal-q.ensures ∙ c.if-q-ne0.false in it))).inside
+get_battery-ram-requires c =
+    let accepted : first_of (battery_checks c.args.s (length c.args.arena.now)) ≡ 0 = sym c.battery_refusal-q.ensures ∙ c.if-q-ne0.false in
+    rw c.battery_start-at.ensures (battery-good _ _ accepted).inside
 
 pub returns : goal.returns
 unfolding restore_state
-returns c = rw ((let it : first_of (battery_checks c.args.s (length c.args.arena.now)) ≡ 0 = sym c.battery_refusal-q.ensures ∙ c.if-q-ne0.false in it), c.get_battery-ram.ensures, c.battery_start-at.ensures)
+returns c = rw (← c.battery_refusal-q.ensures, c.if-q-ne0.false, c.get_battery-ram.ensures, c.battery_start-at.ensures)

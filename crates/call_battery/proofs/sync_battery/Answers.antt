@@ -12,12 +12,19 @@ pub returns-then-q-ne0 : goal.returns-then-q-ne0
 unfolding sync_arena
 returns-then-q-ne0 c = (c.battery_refusal-q.ensures, rw (← c.battery_refusal-q.ensures, ne_eqb _ _ c.if-q-ne0.true))
 
+-- none of the checks holds
 pub battery_start-at-requires : goal.battery_start-at-requires
-battery_start-at-requires c = (memory-good _ (battery-good _ _ ((let it : first_of (battery_checks c.args.s (length c.args.arena.now)) ≡ 0 = sym c.battery_refusal-q.ensures ∙ c.if-q-ne0.false in it))).arena.good).ranged.sized
+battery_start-at-requires c =
+    let accepted : first_of (battery_checks c.args.s (length c.args.arena.now)) ≡ 0 = sym c.battery_refusal-q.ensures ∙ c.if-q-ne0.false in
+    (memory-good _ (battery-good _ _ accepted).arena.good).ranged.sized
 
 pub put_battery-requires : goal.put_battery-requires
-put_battery-requires c = rw c.battery_start-at.ensures (battery-good _ _ ((let it : first_of (battery_checks c.args.s (length c.args.arena.now)) ≡ 0 = sym c.battery_refusal-q.ensures ∙ c.if-q-ne0.false in it))).inside
+put_battery-requires c =
+    let accepted : first_of (battery_checks c.args.s (length c.args.arena.now)) ≡ 0 = sym c.battery_refusal-q.ensures ∙ c.if-q-ne0.false in
+    rw c.battery_start-at.ensures (battery-good _ _ accepted).inside
 
 pub returns : goal.returns
 unfolding sync_arena
-returns c = let e = (let it : first_of (battery_checks c.args.s (length c.args.arena.now)) ≡ 0 = sym c.battery_refusal-q.ensures ∙ c.if-q-ne0.false in it) in (sym e, rw (e, ← c.battery_start-at.ensures) c.put_battery.ensures)
+returns c =
+    let accepted : first_of (battery_checks c.args.s (length c.args.arena.now)) ≡ 0 = sym c.battery_refusal-q.ensures ∙ c.if-q-ne0.false in
+    (sym accepted, rw (accepted, ← c.battery_start-at.ensures) c.put_battery.ensures)
