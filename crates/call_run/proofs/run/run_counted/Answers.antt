@@ -1,60 +1,58 @@
 -- The loop of `run_counted`: before its piece or behind it (`Going`).
-use Prim.Native.Nat.{◌+◌, ◌^◌, ◌≤◌, ◌<◌}
+use Prim.Native.Nat.{◌^◌, ◌<◌}
 use mathlib.Core.Path.{refl, sym, ◌∙◌}
 use mathlib.Core.Logic.{inl, inr}
 use native.Mathlib.Omega.{arith}
 use Rattle.board_state.proofs.Range.{owned-typed}
 use Rattle.call_run.proofs.run.Idle.{counted-least}
-use Rattle.call_run.proofs.run.Loop.{going-within, going_end, Piece, next-piece, piece-done}
+use Rattle.call_run.proofs.run.Loop.{going-within, going_end, next-piece, piece-done}
 use Rattle.call_run.proofs.run.run_counted.Goals as goal
 
 pub loop-at-init : goal.loop-at-init
 loop-at-init c = (inl (record { ran = refl; samples = refl; none = refl }), refl)
 
 pub returns-then-ended : goal.returns-then-ended
-returns-then-ended c = let done = going_end _ _ _ c.requires _ _ _ c.loop-at.invariant.0 (sym c.ended.ensures ∙ c.if-ended.true) in
+returns-then-ended c =
+    let done = going_end _ _ _ c.requires _ _ _ c.loop-at.invariant.0 (sym c.ended.ensures ∙ c.if-ended.true) in
     record { ran_value = (done.ran, done.samples); least = done.least }
 
+-- the piece of a turn
 pub run_piece-ran-requires : goal.run_piece-ran-requires
-run_piece-ran-requires c = ((let it : Piece c.args.n c.args.s c.args.samples.now c.requires ((let it : c.args.s.chip.regs.irq_counter < 2 ^ 16 = (owned-typed c.args.s _ c.well_formed.0).chip.counter in it)) c.loop-at.samples c.loop-at.ran c.loop-at.clocks c.piece-more.result = next-piece _ _ _ c.requires ((let it : c.args.s.chip.regs.irq_counter < 2 ^ 16 = (owned-typed c.args.s _ c.well_formed.0).chip.counter in it)) _ _ _ _ c.loop-at.invariant.0 (sym c.ended.ensures ∙ c.if-ended.false)
-    c.piece-more.ensures in it)).checks
+run_piece-ran-requires c =
+    let small : c.args.s.chip.regs.irq_counter < 2 ^ 16 = (owned-typed c.args.s _ c.well_formed.0).chip.counter in
+    let taken =
+    next-piece _ _ _ c.requires small _ _ _ _ c.loop-at.invariant.0 (sym c.ended.ensures ∙ c.if-ended.false) c.piece-more.ensures in
+    taken.checks
 
+-- with it no more clocks are made than there are
 pub overflow_add-clocks : goal.overflow_add-clocks
-overflow_add-clocks c = omega (
-  arith,
-  (let it : c.loop-at.clocks + c.piece-more.result ≤ c.args.n = omega (
-    arith,
-    ((let it : Piece c.args.n c.args.s c.args.samples.now c.requires ((let it : c.args.s.chip.regs.irq_counter < 2 ^ 16 = (owned-typed c.args.s _ c.well_formed.0).chip.counter in it)) c.loop-at.samples c.loop-at.ran c.loop-at.clocks c.piece-more.result = next-piece _ _ _ c.requires ((let it : c.args.s.chip.regs.irq_counter < 2 ^ 16 = (owned-typed c.args.s _ c.well_formed.0).chip.counter in it)) _ _ _ _ c.loop-at.invariant.0 (sym c.ended.ensures ∙ c.if-ended.false)
-        c.piece-more.ensures in it)).count,
-    (counted-least c.args.n c.args.s ((let it : c.args.s.chip.regs.irq_counter < 2 ^ 16 = (owned-typed c.args.s _ c.well_formed.0).chip.counter in it))).ends.within,
-  ) in it),
-)
+overflow_add-clocks c =
+    let small : c.args.s.chip.regs.irq_counter < 2 ^ 16 = (owned-typed c.args.s _ c.well_formed.0).chip.counter in
+    let taken =
+    next-piece _ _ _ c.requires small _ _ _ _ c.loop-at.invariant.0 (sym c.ended.ensures ∙ c.if-ended.false) c.piece-more.ensures in
+    omega (arith, taken.count, (counted-least c.args.n c.args.s small).ends.within)
 
 pub loop-at-smaller : goal.loop-at-smaller
-loop-at-smaller c = omega (
-  arith,
-  (let it : c.loop-at.clocks + c.piece-more.result ≤ c.args.n = omega (
-    arith,
-    ((let it : Piece c.args.n c.args.s c.args.samples.now c.requires ((let it : c.args.s.chip.regs.irq_counter < 2 ^ 16 = (owned-typed c.args.s _ c.well_formed.0).chip.counter in it)) c.loop-at.samples c.loop-at.ran c.loop-at.clocks c.piece-more.result = next-piece _ _ _ c.requires ((let it : c.args.s.chip.regs.irq_counter < 2 ^ 16 = (owned-typed c.args.s _ c.well_formed.0).chip.counter in it)) _ _ _ _ c.loop-at.invariant.0 (sym c.ended.ensures ∙ c.if-ended.false)
-        c.piece-more.ensures in it)).count,
-    (counted-least c.args.n c.args.s ((let it : c.args.s.chip.regs.irq_counter < 2 ^ 16 = (owned-typed c.args.s _ c.well_formed.0).chip.counter in it))).ends.within,
-  ) in it),
-  ((let it : Piece c.args.n c.args.s c.args.samples.now c.requires ((let it : c.args.s.chip.regs.irq_counter < 2 ^ 16 = (owned-typed c.args.s _ c.well_formed.0).chip.counter in it)) c.loop-at.samples c.loop-at.ran c.loop-at.clocks c.piece-more.result = next-piece _ _ _ c.requires ((let it : c.args.s.chip.regs.irq_counter < 2 ^ 16 = (owned-typed c.args.s _ c.well_formed.0).chip.counter in it)) _ _ _ _ c.loop-at.invariant.0 (sym c.ended.ensures ∙ c.if-ended.false)
-      c.piece-more.ensures in it)).some,
-)
+loop-at-smaller c =
+    let small : c.args.s.chip.regs.irq_counter < 2 ^ 16 = (owned-typed c.args.s _ c.well_formed.0).chip.counter in
+    let taken =
+    next-piece _ _ _ c.requires small _ _ _ _ c.loop-at.invariant.0 (sym c.ended.ensures ∙ c.if-ended.false) c.piece-more.ensures in
+    omega (arith, taken.count, taken.some, (counted-least c.args.n c.args.s small).ends.within)
 
 pub loop-at-preserved : goal.loop-at-preserved
-loop-at-preserved c = (
-  inr (piece-done _ _ _ c.requires ((let it : c.args.s.chip.regs.irq_counter < 2 ^ 16 = (owned-typed c.args.s _ c.well_formed.0).chip.counter in it)) _ _ _ _ ((let it : Piece c.args.n c.args.s c.args.samples.now c.requires ((let it : c.args.s.chip.regs.irq_counter < 2 ^ 16 = (owned-typed c.args.s _ c.well_formed.0).chip.counter in it)) c.loop-at.samples c.loop-at.ran c.loop-at.clocks c.piece-more.result = next-piece _ _ _ c.requires ((let it : c.args.s.chip.regs.irq_counter < 2 ^ 16 = (owned-typed c.args.s _ c.well_formed.0).chip.counter in it)) _ _ _ _ c.loop-at.invariant.0 (sym c.ended.ensures ∙ c.if-ended.false)
-      c.piece-more.ensures in it)) _ _ c.run_piece-ran.ensures.0 c.run_piece-ran.ensures.1),
-  c.run_piece-ran.auto.samples ∙ c.loop-at.invariant.1,
-)
+loop-at-preserved c =
+    let small : c.args.s.chip.regs.irq_counter < 2 ^ 16 = (owned-typed c.args.s _ c.well_formed.0).chip.counter in
+    let taken =
+    next-piece _ _ _ c.requires small _ _ _ _ c.loop-at.invariant.0 (sym c.ended.ensures ∙ c.if-ended.false) c.piece-more.ensures in (
+      inr (piece-done _ _ _ c.requires small _ _ _ _ taken _ _ c.run_piece-ran.ensures.0 c.run_piece-ran.ensures.1),
+      c.run_piece-ran.auto.samples ∙ c.loop-at.invariant.1,
+    )
 
 pub overflow_sub-n : goal.overflow_sub-n
-overflow_sub-n c = (let it : c.loop-at.clocks ≤ c.args.n = going-within _ _ _ _ _ _ c.loop-at.invariant.0 in it)
+overflow_sub-n c = going-within _ _ _ _ _ _ c.loop-at.invariant.0
 
 pub shape_of-samples-then-ended : goal.shape_of-samples-then-ended
 shape_of-samples-then-ended c = c.loop-at.invariant.1
 
 pub overflow_sub-n-in-loop-at : goal.overflow_sub-n-in-loop-at
-overflow_sub-n-in-loop-at c = (let it : c.loop-at.clocks ≤ c.args.n = going-within _ _ _ _ _ _ c.loop-at.invariant.0 in it)
+overflow_sub-n-in-loop-at c = going-within _ _ _ _ _ _ c.loop-at.invariant.0

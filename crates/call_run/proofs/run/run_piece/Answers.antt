@@ -2,7 +2,6 @@
 use mathlib.Core.Path.{◌≡◌, sym, ◌∙◌}
 use mathlib.Core.Bool.{true}
 use lib.ListN.{length}
-use borrow.Author.Tests.{not-true, not-false}
 use Rattle.board_chip.specs.Namco163.{is163}
 use Rattle.board_state.proofs.Range.{sound-ok}
 use Rattle.call_run.specs.Run.{run_gave}
@@ -11,27 +10,38 @@ use Rattle.call_run.proofs.run.run_piece.Goals as goal
 
 pub returns-then-not-is_163 : goal.returns-then-not-is_163
 unfolding run_gave
-returns-then-not-is_163 c = let p = sym c.is_163.ensures ∙ not-true c.is_163.result c.if-not-is_163.true-raw in (
-  rw (c.requires, silent-state c.args.n c.args.s p, silent-samples c.args.n c.args.s p, rise-is c.args.n c.args.s, c.run_counter-counted.ensures.0, c.run_counter-counted.ensures.1),
-  rw (c.requires, silent-samples c.args.n c.args.s p),
-)
+returns-then-not-is_163 c =
+    let p = sym c.is_163.ensures ∙ c.if-not-is_163.true in (
+      rw (
+        c.requires,
+        silent-state c.args.n c.args.s p,
+        silent-samples c.args.n c.args.s p,
+        rise-is c.args.n c.args.s,
+        c.run_counter-counted.ensures.0,
+        c.run_counter-counted.ensures.1,
+      ),
+      rw (c.requires, silent-samples c.args.n c.args.s p),
+    )
 
 pub run_sound-ran-requires : goal.run_sound-ran-requires
-run_sound-ran-requires c = let g = run-good c.args.s c.args.n (length c.args.samples.now) c.requires in
-    (sound-ok c.args.s g.good, rw (← sounds-samples c.args.n c.args.s ((let it : is163 c.args.s.chip.board ≡ true = sym c.is_163.ensures ∙ not-false c.is_163.result c.if-not-is_163.false-raw in it))) g.enough)
+run_sound-ran-requires c =
+    let is-163 : is163 c.args.s.chip.board ≡ true = sym c.is_163.ensures ∙ c.if-not-is_163.false in
+    let g = run-good c.args.s c.args.n (length c.args.samples.now) c.requires in
+    (sound-ok c.args.s g.good, rw (← sounds-samples c.args.n c.args.s is-163) g.enough)
 
 pub returns : goal.returns
 unfolding run_gave
-returns c = let p = (let it : is163 c.args.s.chip.board ≡ true = sym c.is_163.ensures ∙ not-false c.is_163.result c.if-not-is_163.false-raw in it) in (
-  rw (
-    c.requires,
-    sounds-state c.args.n c.args.s p,
-    sounds-samples c.args.n c.args.s p,
-    rise-is c.args.n c.args.s,
-    c.run_counter-counted.ensures.0,
-    c.run_counter-counted.ensures.1,
-    c.run_sound-ran.ensures.audio_value.0,
-    c.run_sound-ran.ensures.audio_value.1,
-  ),
-  rw (c.requires, sounds-samples c.args.n c.args.s p) c.run_sound-ran.ensures.samples_after,
-)
+returns c =
+    let is-163 : is163 c.args.s.chip.board ≡ true = sym c.is_163.ensures ∙ c.if-not-is_163.false in (
+      rw (
+        c.requires,
+        sounds-state c.args.n c.args.s is-163,
+        sounds-samples c.args.n c.args.s is-163,
+        rise-is c.args.n c.args.s,
+        c.run_counter-counted.ensures.0,
+        c.run_counter-counted.ensures.1,
+        c.run_sound-ran.ensures.audio_value.0,
+        c.run_sound-ran.ensures.audio_value.1,
+      ),
+      rw (c.requires, sounds-samples c.args.n c.args.s is-163) c.run_sound-ran.ensures.samples_after,
+    )

@@ -1,5 +1,4 @@
 -- `samples_made` meets its contract: the floor.
-use borrow.Author.Tests.{not-true, not-false}
 use Rattle.board_state.proofs.Range.{counter-small}
 use Rattle.call_run.proofs.run.Laws.{made-floor}
 use Rattle.call_run.proofs.run.samples_made.Goals as goal
@@ -8,15 +7,14 @@ pub returns-then-not-is_163 : goal.returns-then-not-is_163
 returns-then-not-is_163 c = rw (
   made-floor c.args.n c.args.s (counter-small _ c.requires),
   ← c.is_163.ensures,
-  not-true c.is_163.result
-      c.if-not-is_163.true-raw,
+  c.if-not-is_163.true,
 )
 
 pub returns-then-chip : goal.returns-then-chip
 returns-then-chip c = rw (
   made-floor c.args.n c.args.s (counter-small _ c.requires),
   ← c.is_163.ensures,
-  not-false c.is_163.result c.if-not-is_163.false-raw,
+  c.if-not-is_163.false,
   c.if-chip.true,
 )
 
@@ -24,6 +22,6 @@ pub returns : goal.returns
 returns c = rw (
   made-floor c.args.n c.args.s (counter-small _ c.requires),
   ← c.is_163.ensures,
-  not-false c.is_163.result c.if-not-is_163.false-raw,
+  c.if-not-is_163.false,
   c.if-chip.false,
 )
