@@ -12,9 +12,14 @@ pub returns-then-q-ne0 : goal.returns-then-q-ne0
 unfolding cpu_peek
 returns-then-q-ne0 c = rw (← c.cpu_refusal-q.ensures, ne_eqb _ _ c.if-q-ne0.true)
 
+-- none of the checks holds
 pub cpu_byte-byte-requires : goal.cpu_byte-byte-requires
-cpu_byte-byte-requires c = let g = (let it : Arena c.args.s (length c.args.arena.now) = (cpu-good _ _ c.args.addr ((let it : first_of (cpu_checks c.args.s (length c.args.arena.now) c.args.addr) ≡ 0 = sym c.cpu_refusal-q.ensures ∙ c.if-q-ne0.false in it))).0 in it) in (port-good _ g.good, backed _ _ g)
+cpu_byte-byte-requires c =
+    let accepted : first_of (cpu_checks c.args.s (length c.args.arena.now) c.args.addr) ≡ 0 =
+    sym c.cpu_refusal-q.ensures ∙ c.if-q-ne0.false in
+    let good : Arena c.args.s (length c.args.arena.now) = (cpu-good _ _ c.args.addr accepted).0 in
+    (port-good _ good.good, backed _ _ good)
 
 pub returns : goal.returns
 unfolding cpu_peek
-returns c = rw ((let it : first_of (cpu_checks c.args.s (length c.args.arena.now) c.args.addr) ≡ 0 = sym c.cpu_refusal-q.ensures ∙ c.if-q-ne0.false in it), c.cpu_byte-byte.ensures)
+returns c = rw (← c.cpu_refusal-q.ensures, c.if-q-ne0.false, c.cpu_byte-byte.ensures)
