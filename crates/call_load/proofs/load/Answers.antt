@@ -15,12 +15,24 @@ returns-then-q-ne0 c = (
   rw (← c.load_refusal-q.ensures, ne_eqb _ _ c.if-q-ne0.true),
 )
 
+-- none of the checks holds
 pub overflow_cast-mapper : goal.overflow_cast-mapper
-overflow_cast-mapper c = omega (arith, ((let it : LoadGood c.args.mapper c.args.sizes = load-good _ _ _ ((let it : first_of (load_checks c.args.mapper c.args.sizes (length c.args.arena.now)) ≡ 0 = sym c.load_refusal-q.ensures ∙ c.if-q-ne0.false in it)) in it)).small)
+overflow_cast-mapper c =
+    let accepted : first_of (load_checks c.args.mapper c.args.sizes (length c.args.arena.now)) ≡ 0 =
+    sym c.load_refusal-q.ensures ∙ c.if-q-ne0.false in
+    let good : LoadGood c.args.mapper c.args.sizes = load-good _ _ _ accepted in
+    omega (arith, good.small)
 
 pub fresh_state-state-requires : goal.fresh_state-state-requires
-fresh_state-state-requires c = ((let it : LoadGood c.args.mapper c.args.sizes = load-good _ _ _ ((let it : first_of (load_checks c.args.mapper c.args.sizes (length c.args.arena.now)) ≡ 0 = sym c.load_refusal-q.ensures ∙ c.if-q-ne0.false in it)) in it)).fits
+fresh_state-state-requires c =
+    let accepted : first_of (load_checks c.args.mapper c.args.sizes (length c.args.arena.now)) ≡ 0 =
+    sym c.load_refusal-q.ensures ∙ c.if-q-ne0.false in
+    let good : LoadGood c.args.mapper c.args.sizes = load-good _ _ _ accepted in
+    good.fits
 
 pub returns : goal.returns
 unfolding load_answer load_arena
-returns c = let e = (let it : first_of (load_checks c.args.mapper c.args.sizes (length c.args.arena.now)) ≡ 0 = sym c.load_refusal-q.ensures ∙ c.if-q-ne0.false in it) in (rw (e, c.fresh_state-state.ensures), rw e c.clear.ensures)
+returns c = (
+  rw (← c.load_refusal-q.ensures, c.if-q-ne0.false, c.fresh_state-state.ensures),
+  rw (← c.load_refusal-q.ensures, c.if-q-ne0.false) c.clear.ensures,
+)
