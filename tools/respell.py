@@ -16,6 +16,8 @@ import re
 WORD = re.compile(r"(?<![\w'])[a-z_][\w'₀-₉-]*")
 QUOTED = re.compile(r"«([a-z]\w*(?:-\w+)+)»")
 SPECIAL = {"bank3F": "bank_3f"}
+# words that are no names
+KEPT = {"iNES"}
 # a lemma that port.py gave the name that its function gets here
 BEFORE = {"crates/host/": {"found_word": "found_word_lem"}}
 TEXTS = ["README.md", "CONTRIBUTING.md", "CHANGELOG.md", "docs/*.md", "bench/**/*", "oracle/**/*.rs", "oracle/**/*.md", "sessions/*.calls", "scripts/*"]
@@ -60,7 +62,7 @@ def main():
     files = {p: open(p, encoding="utf-8").read() for p in kinds()}
     words = collections.Counter(w for p, t in files.items() if not p.endswith(".edit") for w in WORD.findall(t))
     names = {w: part(w) for w in words if is_camel(w) or any(is_camel(p) for p in w.split("-") if p)}
-    names = {old: new for old, new in names.items() if old != new}
+    names = {old: new for old, new in names.items() if old != new and old not in KEPT}
     by_new = collections.defaultdict(set)
     for old, new in names.items():
         by_new[new].add(old)
@@ -83,7 +85,7 @@ def main():
             t = open(p, encoding="utf-8").read()
         except (OSError, UnicodeDecodeError):
             continue
-        here = {w: part(w) for w in set(WORD.findall(t)) if w in names or (is_camel(w) and part(w) in known)}
+        here = {w: part(w) for w in set(WORD.findall(t)) if w in names or (is_camel(w) and w not in KEPT and part(w) in known)}
         new = WORD.sub(lambda m: here.get(m.group(0), m.group(0)), t)
         if new != t:
             open(p, "w", encoding="utf-8").write(new)

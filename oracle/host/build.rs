@@ -19,7 +19,7 @@ fn main() {
     let archive = folder.join("libhost.a");
     println!("cargo::rerun-if-changed={}", archive.display());
     if !archive.is_file() || folder.is_relative() {
-        println!("cargo::error=no {}; `rt staticlib host` makes it, HOST_ARCHIVE names its folder by an absolute path", archive.display());
+        println!("cargo::error=no {}; `scripts/archive` makes it, HOST_ARCHIVE names its folder by an absolute path", archive.display());
         return;
     }
     println!("cargo::rustc-link-search=native={}", folder.display());

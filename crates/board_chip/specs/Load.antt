@@ -19,7 +19,7 @@ unfoldable pub detecting_at_load : ℕ → ℕ → Bool → Bool
 detecting_at_load mapper sub known =
     cond (mapper == 19) (not known) (cond (mapper == 210) (cond (sub == 1) false (cond (sub == 2) false true)) false)
 
--- L2: the mirroring by the i_nes flags
+-- L2: the mirroring by the iNES flags
 unfoldable pub mirroring_at_load : ℕ → Mirroring
 mirroring_at_load flags = cond (flags / 8 % 2 == 1) FourScreen (cond (flags % 2 == 1) Vertical Horizontal)
 
