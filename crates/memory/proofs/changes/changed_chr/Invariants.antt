@@ -1,7 +1,5 @@
 -- The mask so far is that of the entries from i on.
-use native.Mathlib.Omega.{arith}
-use Rattle.memory.proofs.Laws.Changes.{MaskFrom, mask-none, mask-room, mask_next, mask-whole}
-use borrow.Author.Rules.{rules}
+use Rattle.memory.proofs.Laws.Changes.{MaskFrom}
 use Rattle.memory.proofs.changes.changed_chr.Given as goal
 
 abbrev pub invariant-loop-i : goal.invariant-loop-i

@@ -1,5 +1,4 @@
 -- Each table is the callee's.
-use borrow.Author.Rules.{rules}
 use Rattle.memory.specs.Changes.{changes}
 use Rattle.memory.proofs.changes.changes_between.Goals as goal
 

@@ -1,11 +1,8 @@
 -- `chr_ok` meets its contract: `ok` says whether all entries before i pass.
 use Prim.Native.Nat.{◌-◌, ◌≤◌}
-use mathlib.Core.Path.{◌≡◌, refl}
-use native.Mathlib.Omega.{arith}
-use borrow.Author.Rules.{rules}
+use mathlib.Core.Path.{◌≡◌}
 use Rattle.limits.specs.Every.{every}
 use Rattle.memory.specs.Range.{entry_test}
-use Rattle.limits.proofs.Every.{every-next}
 use Rattle.memory.proofs.range.chr_ok.Given as goal
 
 abbrev pub invariant-loop-i : goal.invariant-loop-i

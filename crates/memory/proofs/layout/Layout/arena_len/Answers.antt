@@ -2,7 +2,6 @@
 use Rattle.memory.proofs.Laws.Layout.{arena-pages}
 use Rattle.memory.specs.Layout.{arena_len}
 use native.Mathlib.Omega.{arith}
-use borrow.Author.Rules.{rules}
 use Rattle.memory.proofs.layout.Layout.arena_len.Goals as goal
 
 pub returns : goal.returns

@@ -1,7 +1,6 @@
 -- The pages before the region, for either place of CHR.
 use Rattle.memory.specs.Layout.{first_page, pages_before, arena_order}
 use native.Mathlib.Omega.{arith}
-use borrow.Author.Rules.{rules}
 use Rattle.memory.proofs.layout.Layout.chr_page.Goals as goal
 
 pub returns-then-self : goal.returns-then-self

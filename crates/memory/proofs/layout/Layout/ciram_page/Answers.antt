@@ -1,7 +1,6 @@
 -- CHR stands before CIRAM in both orders.
 use Rattle.memory.proofs.Laws.Layout.{first-ciram}
 use native.Mathlib.Omega.{arith}
-use borrow.Author.Rules.{rules}
 use Rattle.memory.proofs.layout.Layout.ciram_page.Goals as goal
 
 pub returns : goal.returns

@@ -1,6 +1,5 @@
 -- Each count is the callee's.
 use Rattle.memory.specs.Layout.{layout_of}
-use borrow.Author.Rules.{rules}
 use Rattle.memory.proofs.layout.Layout.new.Goals as goal
 
 pub returns : goal.returns

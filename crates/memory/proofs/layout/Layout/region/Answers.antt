@@ -9,7 +9,6 @@ use Rattle.memory.specs.Range.{GoodLayout}
 use Prim.Native.Nat.{ℕ, ◌*◌}
 use Rattle.memory.specs.Layout.{region_of, first_page, pages_before, arena_order}
 use mathlib.Core.Path.{◌≡◌}
-use borrow.Author.Rules.{rules}
 use Rattle.memory.proofs.layout.Layout.region.Goals as goal
 
 -- the definition's region, so one inside the largest arena

@@ -1,5 +1,4 @@
 -- The mask keeps the low 30 bits, and the flag stands above them.
-use borrow.Author.Rules.{rules}
 use Prim.Native.Nat.{◌%◌, ◌^◌}
 use native.Mathlib.Nat.{zero-add}
 use native.Mathlib.Omega.{arith}
