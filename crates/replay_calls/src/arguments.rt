@@ -1,7 +1,7 @@
 // A word as an address, a byte or a region.
+use check::same;
 use memory::layout::Src;
 use replay_text::number::{Number, parse_number};
-use replay_text::words::same;
 
 #[derive(Clone, Copy)]
 pub enum Address {

@@ -1,10 +1,11 @@
 // A line as a call.
 use crate::arguments::{Address, Byte, Region, parse_address, parse_byte, parse_region};
 use crate::name::Name;
+use check::same;
 use memory::layout::{MemoryLayout, Src};
 use replay_text::hex::{Decoded, decode};
 use replay_text::number::{Number, parse_number};
-use replay_text::words::{same, spaces, word};
+use replay_text::words::{spaces, word};
 
 // What a load names.
 #[derive(Clone, Copy)]

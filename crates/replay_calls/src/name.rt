@@ -1,6 +1,6 @@
 // The calls' names, and the words that each has.
+use check::same;
 use replay_text::out::put_all;
-use replay_text::words::same;
 
 #[derive(Clone, Copy)]
 pub enum Name {

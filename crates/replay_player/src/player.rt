@@ -1,5 +1,5 @@
 // What lasts from line to line, beside the lent arrays.
-ghost use Rattle.replay_player.specs.Counts.{IsPrefixLen};
+ghost use Rattle.io.specs.Counts.{IsPrefixLen};
 
 use board_state::State;
 use board_state::none::no_state;

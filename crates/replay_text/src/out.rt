@@ -1,6 +1,6 @@
 // Writing behind what a buffer holds already. What no longer fits is left out.
-ghost use Rattle.std.specs.Prelude.{◌+◌, ◌^◌, ◌≤◌, ◌<◌, ◌≡◌, take};
-ghost use Rattle.replay_text.specs.Decimal.{decimal_in, decimal_of};
+ghost use Rattle.std.specs.Prelude.{◌≡◌};
+ghost use Rattle.replay_text.specs.Decimal.{decimal_of};
 ghost use Rattle.replay_text.specs.Hex.{hex8, hex16, hex32, hex64};
 ghost use Rattle.replay_text.specs.Out.{put_to, put_one, put_all};
 
@@ -29,27 +29,11 @@ pub fn put_all(out: &mut [u8], at: usize, bytes: &[u8]) -> usize
     end
 }
 
-// Puts the decimal digits of a number below 10 ^ (most + 1) at the start of a buffer, and answers how many there are.
-fn decimal(n: u64, most: usize, digits: &mut [u8; 20]) -> usize
-    requires most { most < 20 }
-    requires below { n < 10 ^ (most + 1) }
-    ensures len { result ≤ most + 1 }
-    ensures digits { take result digits.new ≡ decimal_in most n }
-{
-    if n < 10 {
-        digits[0] = 48 + n as u8;
-        return 1;
-    }
-    let k = decimal(n / 10, most - 1, digits);
-    digits[k] = 48 + (n % 10) as u8;
-    k + 1
-}
-
 pub fn put_decimal(out: &mut [u8], at: usize, n: u64) -> usize
     ensures { put_to out.new result ≡ put_all (put_to out.old at) (decimal_of n) }
 {
     let mut digits = [0u8; 20];
-    let k = decimal(n, 19, &mut digits);
+    let k = io::decimal(n, &mut digits);
     put_all(out, at, &digits[..k])
 }
 

@@ -1,5 +1,5 @@
 // Words of a line, each behind one space.
-ghost use Rattle.std.specs.Prelude.{◌+◌, ◌≤◌, ◌≡◌, length, drop, true};
+ghost use Rattle.std.specs.Prelude.{◌+◌, ◌≤◌, ◌≡◌, length, drop};
 ghost use Rattle.replay_text.specs.Words.{is_space, spaces_in, behind, word_length, word_at};
 
 fn is_space(b: u8) -> usize
@@ -58,11 +58,4 @@ pub fn word(line: &[u8], n: usize) -> &[u8]
     let a = start(line, n);
     let e = end(line, a);
     &line[a..e]
-}
-
-// Whether two words have the same bytes.
-pub fn same(a: &[u8], b: &[u8]) -> bool
-    ensures { (result ≡ true → a.now ≡ b.now) × (a.now ≡ b.now → result ≡ true) }
-{
-    a == b
 }
