@@ -13,7 +13,7 @@ use directory::fitness::fit;
 use refusals::Refusal;
 
 // N2.
-fn check_directory(d: &[u64]) -> Result<(), Refusal>
+pub fn check_directory(d: &[u64]) -> Result<(), Refusal>
     ensures { MatchResult result (λ _. fit d.now ≡ true) (λ r. (r ≡ because.State) × (fit d.now ≡ false)) }
 {
     if fit(d) { Ok(()) } else { Err(Refusal::State) }

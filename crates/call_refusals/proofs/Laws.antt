@@ -9,6 +9,8 @@ use borrow.Author.Rules.{rules}
 use borrow.Author.Tests.{not-false, ne_eqb, eqb-true, eqb-false, ltb-false}
 use mathlib.Core.Logic.{◌⊎◌, inl, inr}
 use lib.Dec.{eqb}
+use mir.Val.{Val}
+use denote.Laws.{Is}
 use lib.ListN.{length}
 use Rattle.memory.specs.declared.layout.Src.{Src}
 use Rattle.memory.specs.declared.layout.Src.TheVariants.{BatteryExt}
@@ -17,13 +19,14 @@ use Rattle.memory.proofs.Laws.Layout.{region-in}
 use Rattle.memory.specs.Memory.{region_in}
 use Rattle.memory_bytes.specs.Bytes.{Backed}
 use Rattle.board_state.specs.declared.State.{State}
-use Rattle.board_state.specs.State.{in_range}
-use Rattle.board_state.proofs.Range.{memory-good}
+use Rattle.board_state.specs.State.{in_range, Known}
+use Rattle.board_state.proofs.Range.{memory-good, known}
 use Rattle.refusals.specs.declared.Refusal.{Refusal}
 use Rattle.refusals.specs.declared.Refusal.TheVariants as Because
 use Rattle.refusals.specs.Refusal.{number_of}
 use Rattle.refusals.proofs.Numbers.{numbered}
 use Rattle.call_refusals.specs.declared.known.KnownState.{KnownState}
+use Rattle.call_refusals.specs.contracts.known.KnownState as Row
 use Rattle.call_refusals.specs.Refusals.{Check, first_of, unless_refused, state_check, state_checks, arena_checks, cpu_checks, fill_checks}
 use Rattle.call_refusals.specs.Refusals.{battery_checks}
 
@@ -103,6 +106,10 @@ unknown s cs e h = rw (h.0, h.1)
 -- a state that passed it
 pub known-range : {s : State} (k : KnownState) → k.state ≡ s → in_range s ≡ true
 known-range k e = rw (← e) k.in_range
+
+-- all that is known of one that is owned
+pub known-state : (k : KnownState) (vs : List Val) → Is Row.the_row k vs → Known k.state
+known-state k vs is = known k.state _ is.1.1.0 k.in_range
 
 -- ---- the arena's checks and one more behind them, as the code makes them
 

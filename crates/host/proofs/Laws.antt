@@ -16,7 +16,7 @@ use Rattle.board_state.specs.State.{Known}
 use Rattle.board_state.proofs.Range.{known-passes}
 use Rattle.call_refusals.specs.Refusals.{Check, first_of, unless_refused, state_check, load_checks}
 use Rattle.call_refusals.proofs.Laws.{Numbered, NoneHolds, accepted-none, first_done, number_is}
-use Rattle.call_load.specs.declared.Loaded.{Loaded}
+use Rattle.call_load.specs.Cartridge.{Loaded}
 use Rattle.call_load.specs.Cartridge.{fresh_state, load_answer}
 use Rattle.image_write.specs.Options.{image_at, option_set, room_for}
 use Rattle.image_write.specs.Writing.{room_check}

@@ -16,7 +16,7 @@ use Rattle.board_state.specs.State.{Known}
 use Rattle.board_state.proofs.Range.{known-passes}
 use Rattle.call_refusals.specs.Refusals.{Check, first_of, unless_refused, unless_kept, state_check, cpu_checks, load_checks}
 use Rattle.call_refusals.proofs.Laws.{Numbered, accepted-none, first_more, first_done, refused-is, accepted-is}
-use Rattle.call_load.specs.declared.Loaded.{Loaded}
+use Rattle.call_load.specs.Cartridge.{Loaded}
 use Rattle.call_load.specs.Cartridge.{load_answer, load_arena}
 use Rattle.image_write.specs.Options.{room_for}
 use Rattle.image_write.specs.Writing.{room_check}

@@ -19,7 +19,7 @@ use Rattle.board_state.specs.State.{Known}
 use Rattle.board_state.specs.declared.Options.{Options}
 use Rattle.call_refusals.specs.Refusals.{Check, first_of, unless_refused, kind_check, cpu_checks}
 use Rattle.call_refusals.proofs.Laws.{accepted-is, number_is}
-use Rattle.call_cpu.specs.declared.calls.Written.{Written}
+use Rattle.call_cpu.specs.Calls.{WriteAnswer}
 use Rattle.call_cpu.specs.Calls.{write_register, cpu_read, cpu_write}
 use Rattle.call_run.specs.Run.{clocks, made, run_limit}
 use Rattle.call_run.proofs.run.Laws.{made-most}
@@ -155,11 +155,11 @@ chr-small : (s : State) (arena : List ℕ) (addr v : ℕ) → Known s → (cpu_w
 unfolding cpu_write changes chr_changes
 chr-small s arena addr v k =
     let old = s.memory.chr_pages in let new = (write_register s addr v).memory.chr_pages in
-    cond-holds (λ (w : Written). w.changed.chr.mask < 2 ^ 16) (eqb (first_of (cpu_checks s (length arena) addr)) 0) _ _
+    cond-holds (λ (w : WriteAnswer). w.changed.chr.mask < 2 ^ 16) (eqb (first_of (cpu_checks s (length arena) addr)) 0) _ _
     (subst (λ (n : ℕ). changed old new < 2 ^ n) k.typed.memory.chr (changed-lt old new))
     (omega arith)
 
-pub record Masks (word : ℕ) (w : Written) : Type 0 where
+pub record Masks (word : ℕ) (w : WriteAnswer) : Type 0 where
   pub chr : word / 2 ^ 8 % 2 ^ 16 ≡ w.changed.chr.mask
   pub prg : word / 2 ^ 24 * 2 ^ 24 ≡ w.changed.prg.mask
 

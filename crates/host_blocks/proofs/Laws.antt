@@ -7,7 +7,7 @@ use native.Mathlib.Omega.{arith}
 use lib.ListN.{length}
 use Rattle.board_state.specs.declared.State.{State}
 use Rattle.call_refusals.specs.Refusals.{Check, first_of, unless_refused, cpu_checks}
-use Rattle.call_cpu.specs.declared.calls.Written.{Written}
+use Rattle.call_cpu.specs.Calls.{WriteAnswer}
 use Rattle.call_cpu.specs.Calls.{refused_write, cpu_write, cpu_write_arena}
 use Rattle.directory.specs.Fit.{fit}
 use Rattle.call_blocks.specs.Blocks.{with_directory, cpu_write_answer, cpu_write_leaves}
@@ -15,10 +15,10 @@ use Rattle.call_blocks.proofs.Laws.{unfit-number, fit-number, given-unfit, given
 use Rattle.host_state.specs.HostState.{unaltered, write_gives}
 use Rattle.host_state.proofs.Laws.{Called, called, write_left, write_kept}
 
-abbrev refusal : Written → ℕ
+abbrev refusal : WriteAnswer → ℕ
 refusal w = w.refusal
 
-module _ (d : List ℕ) (s : State) (img arena : List ℕ) (addr v : ℕ) (r : Written) (e : r ≡ cpu_write_answer d s arena addr v) where
+module _ (d : List ℕ) (s : State) (img arena : List ℕ) (addr v : ℕ) (r : WriteAnswer) (e : r ≡ cpu_write_answer d s arena addr v) where
   abbrev own : List Check
   own = cpu_checks s (length arena) addr
 
@@ -68,5 +68,5 @@ module _ (d : List ℕ) (s : State) (img arena : List ℕ) (addr v : ℕ) (r : W
   pub left : r.refusal ≡ 0 → write_left (length img) r (cpu_write_leaves d s arena addr v)
       ≡ unless_refused (with_directory d (cpu_checks s (length arena) addr)) (unaltered img arena) (write_gives (length img) s arena addr v)
   left z =
-      ap (λ (x : Written). write_left (length img) x (cpu_write_leaves d s arena addr v)) (own-write z)
+      ap (λ (x : WriteAnswer). write_left (length img) x (cpu_write_leaves d s arena addr v)) (own-write z)
       ∙ ap (write_left (length img) (cpu_write s arena addr v)) (arena-after z) ∙ blocks-called.accepted z

@@ -2,19 +2,16 @@
 #![tactic(auto)]
 
 ghost use Rattle.std.specs.Prelude.{◌≡◌, []};
-ghost use Rattle.board_state.specs.State.{Known};
+ghost use Rattle.refusals.specs.Refusal.{word_of};
 ghost use Rattle.host_state.specs.HostState.{write_on};
 
-use board_state::State;
 use call_preview::preview_known;
+use call_refusals::known::KnownState;
+use host_state::changes_word;
+use refusals::Refusal;
 
-pub fn preview_on(s: State, arena: &[u8], addr: u16, val: u8) -> u64
-    requires { Known s }
-    ensures { result ≡ (write_on s [] arena.now addr val).word }
+pub fn preview_on(s: KnownState, arena: &[u8], addr: u16, val: u8) -> Result<u64, Refusal>
+    ensures { word_of result ≡ (write_on s.state [] arena.now addr val).word }
 {
-    let got = preview_known(s, arena, addr, val);
-    if got.refusal != 0 {
-        return got.refusal as u64;
-    }
-    (got.changed.chr.mask as u64) * 256 + got.changed.prg.mask
+    Ok(changes_word(preview_known(s, arena, addr, val)?))
 }

@@ -14,12 +14,10 @@ use Rattle.board_chip.specs.Namco163.{is163}
 use Rattle.board_chip.specs.Reads.{after_read}
 use Rattle.board_state.specs.declared.State.{State}
 use Rattle.board_state.specs.State.{Known, with_chip}
-use Rattle.call_answers.specs.declared.Altered.{Altered}
+use Rattle.call_answers.specs.Answers.{Altered}
 use Rattle.call_refusals.specs.Refusals.{Check, first_of, unless_refused, reset_checks, cpu_checks}
 use Rattle.call_refusals.proofs.Laws.{refused-is, accepted-is, number_is, cpu-good}
-use Rattle.call_cpu.specs.declared.calls.ByteRead.{ByteRead}
-use Rattle.call_cpu.specs.declared.calls.Written.{Written}
-use Rattle.call_cpu.specs.Calls.{cpu_read, refused_write, write_register, cpu_write, cpu_write_arena}
+use Rattle.call_cpu.specs.Calls.{ReadAnswer, cpu_read, WriteAnswer, refused_write, write_register, cpu_write, cpu_write_arena}
 use Rattle.call_reset.specs.Reset.{kind_of, reset_state}
 use Rattle.call_run.specs.Run.{clocks, made}
 use Rattle.call_run.proofs.run.Laws.{made-floor}
@@ -63,35 +61,35 @@ reset-called s img kind r e =
     (ap refusal e ∙ number_is (reset_checks s kind) (λ q. record { refusal = q; state = s }) _ refusal refl (λ q. refl))
     (ap (λ (x : Altered). record { word = 0; image = image_at (length img) x.state; lent = [] }) e)
 
-abbrev pub ReadCalled : State → List ℕ → List ℕ → ℕ → ByteRead → Type 0
+abbrev pub ReadCalled : State → List ℕ → List ℕ → ℕ → ReadAnswer → Type 0
 ReadCalled s img arena addr r =
     Called (cpu_checks s (length arena) addr) img arena (read_gives (length img) s arena addr)
     (record { word = r.byte * 2 ^ 8; image = image_at (length img) r.state; lent = arena }) r.refusal
 
-pub read-called : (s : State) (img arena : List ℕ) (addr : ℕ) (r : ByteRead) → r ≡ cpu_read s arena addr → ReadCalled s img arena addr r
+pub read-called : (s : State) (img arena : List ℕ) (addr : ℕ) (r : ReadAnswer) → r ≡ cpu_read s arena addr → ReadCalled s img arena addr r
 unfolding cpu_read
 read-called s img arena addr r e =
-    let refusal : ByteRead → ℕ = λ x. x.refusal in
+    let refusal : ReadAnswer → ℕ = λ x. x.refusal in
     called _ img arena _ _ _
     (ap refusal e
     ∙ number_is (cpu_checks s (length arena) addr) (λ q. record { refusal = q; byte = 0; state = s }) _ refusal refl (λ q. refl))
-    (ap (λ (x : ByteRead). record { word = x.byte * 2 ^ 8; image = image_at (length img) x.state; lent = arena }) e)
+    (ap (λ (x : ReadAnswer). record { word = x.byte * 2 ^ 8; image = image_at (length img) x.state; lent = arena }) e)
 
-abbrev pub write_left : ℕ → Written → List ℕ → Gives
+abbrev pub write_left : ℕ → WriteAnswer → List ℕ → Gives
 write_left n r arena = record { word = r.changed.chr.mask * 2 ^ 8 + r.changed.prg.mask; image = image_at n r.state; lent = arena }
 
-abbrev pub WriteCalled : State → List ℕ → List ℕ → ℕ → ℕ → Written → Type 0
+abbrev pub WriteCalled : State → List ℕ → List ℕ → ℕ → ℕ → WriteAnswer → Type 0
 WriteCalled s img arena addr v r =
     Called (cpu_checks s (length arena) addr) img arena (write_gives (length img) s arena addr v)
     (write_left (length img) r (cpu_write_arena s arena addr v)) r.refusal
 
-pub write-called : (s : State) (img arena : List ℕ) (addr v : ℕ) (r : Written) → r ≡ cpu_write s arena addr v
+pub write-called : (s : State) (img arena : List ℕ) (addr v : ℕ) (r : WriteAnswer) → r ≡ cpu_write s arena addr v
     → WriteCalled s img arena addr v r
 unfolding cpu_write
 write-called s img arena addr v r e =
-    let refusal : Written → ℕ = λ x. x.refusal in
+    let refusal : WriteAnswer → ℕ = λ x. x.refusal in
     called _ img arena _ _ _ (ap refusal e ∙ number_is (cpu_checks s (length arena) addr) (refused_write s) _ refusal refl (λ q. refl))
-    (ap (λ (x : Written). write_left (length img) x (cpu_write_arena s arena addr v)) e)
+    (ap (λ (x : WriteAnswer). write_left (length img) x (cpu_write_arena s arena addr v)) e)
 
 -- a refused write leaves the arena
 pub write_kept : (s : State) (arena : List ℕ) (addr v : ℕ) → (first_of (cpu_checks s (length arena) addr) ≡ 0 → ⊥)
@@ -134,18 +132,18 @@ known-reset s kind r e k =
     subst P (sym e)
     (cond-holds P (eqb (first_of (reset_checks s kind)) 0) _ _ (known-chip s _ (reset-keeps s.chip (kind_of kind)) k) k)
 
-pub known_read : (s : State) (arena : List ℕ) (addr : ℕ) (r : ByteRead) → r ≡ cpu_read s arena addr → Known s → Known r.state
+pub known_read : (s : State) (arena : List ℕ) (addr : ℕ) (r : ReadAnswer) → r ≡ cpu_read s arena addr → Known s → Known r.state
 unfolding cpu_read
 known_read s arena addr r e k =
-    let P : ByteRead → Type 0 = λ x. Known x.state in
+    let P : ReadAnswer → Type 0 = λ x. Known x.state in
     subst P (sym e)
     (cond-holds P (eqb (first_of (cpu_checks s (length arena) addr)) 0) _ _ (known-chip s _ (after-read-keeps s.chip addr) k) k)
 
-pub known-write : (s : State) (arena : List ℕ) (addr v : ℕ) (r : Written) → r ≡ cpu_write s arena addr v → v < 256 → Bytes arena
+pub known-write : (s : State) (arena : List ℕ) (addr v : ℕ) (r : WriteAnswer) → r ≡ cpu_write s arena addr v → v < 256 → Bytes arena
     → first_of (cpu_checks s (length arena) addr) ≡ 0 → Known s → Known r.state
 unfolding other_gives
 known-write s arena addr v r e b bytes z k =
-    subst (λ (x : Written). Known x.state) (sym e)
+    subst (λ (x : WriteAnswer). Known x.state) (sym e)
     (other_fits (call_write addr v) (record { state = s; arena = arena }) b
     (record { known = k; long = (cpu-good s (length arena) addr z).0.long; bytes = bytes })).known
 
@@ -161,25 +159,25 @@ room-reset s kind r n e =
     let P : Altered → Type 0 = λ x. option_set x.state ≡ option_set s in
     room-same s r.state n (subst P (sym e) (cond-holds P (eqb (first_of (reset_checks s kind)) 0) _ _ refl refl))
 
-pub room-read : (s : State) (arena : List ℕ) (addr : ℕ) (r : ByteRead) (n : ℕ) → r ≡ cpu_read s arena addr → room_for (option_set s) n ≡ true
+pub room-read : (s : State) (arena : List ℕ) (addr : ℕ) (r : ReadAnswer) (n : ℕ) → r ≡ cpu_read s arena addr → room_for (option_set s) n ≡ true
     → room_for (option_set r.state) n ≡ true
 unfolding cpu_read
 room-read s arena addr r n e =
-    let P : ByteRead → Type 0 = λ x. option_set x.state ≡ option_set s in
+    let P : ReadAnswer → Type 0 = λ x. option_set x.state ≡ option_set s in
     room-same s r.state n (subst P (sym e) (cond-holds P (eqb (first_of (cpu_checks s (length arena) addr)) 0) _ _ refl refl))
 
-pub room-write : (s : State) (arena : List ℕ) (addr v : ℕ) (r : Written) (n : ℕ) → r ≡ cpu_write s arena addr v
+pub room-write : (s : State) (arena : List ℕ) (addr v : ℕ) (r : WriteAnswer) (n : ℕ) → r ≡ cpu_write s arena addr v
     → room_for (option_set s) n ≡ true → room_for (option_set r.state) n ≡ true
 unfolding cpu_write write_register
 room-write s arena addr v r n e =
-    let P : Written → Type 0 = λ x. option_set x.state ≡ option_set s in
+    let P : WriteAnswer → Type 0 = λ x. option_set x.state ≡ option_set s in
     room-same s r.state n (subst P (sym e) (cond-holds P (eqb (first_of (cpu_checks s (length arena) addr)) 0) _ _ refl refl))
 
 pub room-clocks : (s : State) (k n : ℕ) → room_for (option_set s) n ≡ true → room_for (option_set (clocks k s).state) n ≡ true
 room-clocks s k n = room-same s (clocks k s).state n (clocks-keep-options k s)
 
 -- a read outside the sound port leaves it as it was
-pub still_read : (s : State) (arena : List ℕ) (addr : ℕ) (r : ByteRead) → r ≡ cpu_read s arena addr → 0x5000 ≤ addr
+pub still_read : (s : State) (arena : List ℕ) (addr : ℕ) (r : ReadAnswer) → r ≡ cpu_read s arena addr → 0x5000 ≤ addr
     → first_of (cpu_checks s (length arena) addr) ≡ 0 → s ≡ r.state
 unfolding cpu_read after_read
 still_read s arena addr r e h z = sym (rw (e, z, le-ltb addr 0x4800 (omega arith), le-ltb addr 0x5000 h))

@@ -1,18 +1,22 @@
 // The host's calls on a state (H4): the answer's word (H6), and the image of the state after it.
 #![tactic(auto)]
 
-ghost use Rattle.std.specs.Prelude.{◌≤◌, ◌≡◌, true, length};
+ghost use Rattle.std.specs.Prelude.{◌+◌, ◌*◌, ◌%◌, ◌^◌, ◌≤◌, ◌≡◌, true, length};
 ghost use Rattle.board_state.specs.State.{Known};
+ghost use Rattle.refusals.specs.Refusal.{word_of};
 ghost use Rattle.image_write.specs.Options.{image_at, option_set, room_for};
 ghost use Rattle.host_samples.specs.Samples.{HoldsRun};
 ghost use Rattle.host_state.specs.HostState.{reset_on, read_on, write_on, run_on, short_run};
 
 use board_state::State;
 use call_cpu::calls::{cpu_read_known, cpu_write_known};
+use call_refusals::known::KnownState;
 use call_reset::reset;
 use call_run::run::SAMPLES_MOST;
 use host_samples::{put_samples, run_into};
 use image_write::writing::put_image;
+use memory::changes::Changed;
+use refusals::Refusal;
 
 // The most clocks of a short run.
 const SHORT_RUN: u64 = 1_920;
@@ -20,100 +24,124 @@ const SHORT_RUN: u64 = 1_920;
 // As many samples as a short run can make: an update each 15 clocks makes 128 of 1,920, from any update counter.
 const SHORT_SAMPLES: usize = 128;
 
+// H6: the CHR mask in bits 8..23, and the PRG mask where its own bits stand.
+pub fn changes_word(changed: Changed) -> u64
+    requires { changed.prg.mask % 2 ^ 24 ≡ 0 }
+    ensures { result ≡ changed.chr.mask * 2 ^ 8 + changed.prg.mask }
+{
+    (changed.chr.mask as u64) * 256 + changed.prg.mask
+}
+
 // A reset of a state, and its image.
-pub fn reset_on(s: State, kind: u64, image: &mut [u8]) -> u64
+pub fn reset_on(s: State, kind: u64, image: &mut [u8]) -> Result<u64, Refusal>
     requires { room_for (option_set s) (length image.old) ≡ true }
-    ensures value { result ≡ (reset_on s image.old kind).word }
+    ensures value { word_of result ≡ (reset_on s image.old kind).word }
     ensures image_after { image.new ≡ (reset_on s image.old kind).image }
 {
-    let altered = reset(s, kind);
-    if altered.refusal != 0 {
-        return altered.refusal as u64;
-    }
-    let after = altered.state;
+    let after = reset(s, kind)?;
     put_image(image, after);
-    0
+    Ok(0)
 }
 
 // A CPU read on the image's state, and the image of the state after it. Only the sound port at 4800..4FFF changes the state.
-pub fn read_on(s: State, arena: &[u8], addr: u16, image: &mut [u8]) -> u64
-    requires { (room_for (option_set s) (length image.old) ≡ true) × (image.old ≡ image_at (length image.old) s) × Known s }
-    ensures value { result ≡ (read_on s image.old arena.now addr).word }
-    ensures image_after { image.new ≡ (read_on s image.old arena.now addr).image }
+pub fn read_on(
+    s: KnownState,
+    arena: &[u8],
+    addr: u16,
+    image: &mut [u8],
+) -> Result<u64, Refusal>
+    requires { (room_for (option_set s.state) (length image.old) ≡ true) × (image.old ≡ image_at (length image.old) s.state) }
+    ensures value { word_of result ≡ (read_on s.state image.old arena.now addr).word }
+    ensures image_after { image.new ≡ (read_on s.state image.old arena.now addr).image }
 {
-    let got = cpu_read_known(s, arena, addr);
-    if got.refusal != 0 {
-        return got.refusal as u64;
-    }
+    let got = cpu_read_known(s, arena, addr)?;
     let word = (got.byte as u64) * 256;
     if 0x5000 <= addr {
-        return word;
+        return Ok(word);
     }
-    let moved = got.state;
-    put_image(image, moved);
-    word
+    put_image(image, got.state);
+    Ok(word)
 }
 
 // A CPU write on a state, and the image of the state after it.
-pub fn write_on(s: State, arena: &mut [u8], addr: u16, val: u8, image: &mut [u8]) -> u64
-    requires { (room_for (option_set s) (length image.old) ≡ true) × Known s }
-    ensures value { result ≡ (write_on s image.old arena.old addr val).word }
-    ensures image_after { image.new ≡ (write_on s image.old arena.old addr val).image }
-    ensures arena_after { arena.new ≡ (write_on s image.old arena.old addr val).lent }
+pub fn write_on(
+    s: KnownState,
+    arena: &mut [u8],
+    addr: u16,
+    val: u8,
+    image: &mut [u8],
+) -> Result<u64, Refusal>
+    requires { room_for (option_set s.state) (length image.old) ≡ true }
+    ensures value { word_of result ≡ (write_on s.state image.old arena.old addr val).word }
+    ensures image_after { image.new ≡ (write_on s.state image.old arena.old addr val).image }
+    ensures arena_after { arena.new ≡ (write_on s.state image.old arena.old addr val).lent }
 {
-    let written = cpu_write_known(s, arena, addr, val);
-    if written.refusal != 0 {
-        return written.refusal as u64;
-    }
-    let next = written.state;
-    put_image(image, next);
-    (written.changed.chr.mask as u64) * 256 + written.changed.prg.mask
+    let written = cpu_write_known(s, arena, addr, val)?;
+    put_image(image, written.state);
+    Ok(changes_word(written.changed))
 }
 
 // A run from a state by way of a buffer that holds what it makes, and the image of the state after it.
-fn run_through(s: State, n: u64, samples: &mut [u8], image: &mut [u8], buf: &mut [f32]) -> u64
-    requires { (room_for (option_set s) (length image.old) ≡ true) × Known s × HoldsRun s n (length buf.old) }
-    ensures value { result ≡ (run_on s image.old samples.old n).word }
-    ensures image_after { image.new ≡ (run_on s image.old samples.old n).image }
-    ensures samples_after { samples.new ≡ (run_on s image.old samples.old n).lent }
+fn run_through(
+    s: KnownState,
+    n: u64,
+    samples: &mut [u8],
+    image: &mut [u8],
+    buf: &mut [f32],
+) -> Result<u64, Refusal>
+    requires { (room_for (option_set s.state) (length image.old) ≡ true) × HoldsRun s.state n (length buf.old) }
+    ensures value { word_of result ≡ (run_on s.state image.old samples.old n).word }
+    ensures image_after { image.new ≡ (run_on s.state image.old samples.old n).image }
+    ensures samples_after { samples.new ≡ (run_on s.state image.old samples.old n).lent }
 {
-    let ran = run_into(s, n, samples.len(), buf);
-    if ran.refusal != 0 {
-        return ran.refusal as u64;
-    }
+    let ran = run_into(s, n, samples.len(), buf)?;
     put_samples(buf, ran.made, samples);
-    let last = ran.state;
-    put_image(image, last);
-    (ran.made as u64) * 256 + (ran.rise as u64) * 4_294_967_296
+    put_image(image, ran.state);
+    Ok((ran.made as u64) * 256 + (ran.rise as u64) * 4_294_967_296)
 }
 
 // A short run has a small buffer, since a buffer is cleared first.
-fn run_short(s: State, n: u64, samples: &mut [u8], image: &mut [u8]) -> u64
-    requires { (room_for (option_set s) (length image.old) ≡ true) × Known s × (n ≤ short_run) }
-    ensures value { result ≡ (run_on s image.old samples.old n).word }
-    ensures image_after { image.new ≡ (run_on s image.old samples.old n).image }
-    ensures samples_after { samples.new ≡ (run_on s image.old samples.old n).lent }
+fn run_short(
+    s: KnownState,
+    n: u64,
+    samples: &mut [u8],
+    image: &mut [u8],
+) -> Result<u64, Refusal>
+    requires { (room_for (option_set s.state) (length image.old) ≡ true) × (n ≤ short_run) }
+    ensures value { word_of result ≡ (run_on s.state image.old samples.old n).word }
+    ensures image_after { image.new ≡ (run_on s.state image.old samples.old n).image }
+    ensures samples_after { samples.new ≡ (run_on s.state image.old samples.old n).lent }
 {
     let mut buf = [0.0f32; SHORT_SAMPLES];
     run_through(s, n, samples, image, &mut buf)
 }
 
-fn run_long(s: State, n: u64, samples: &mut [u8], image: &mut [u8]) -> u64
-    requires { (room_for (option_set s) (length image.old) ≡ true) × Known s }
-    ensures value { result ≡ (run_on s image.old samples.old n).word }
-    ensures image_after { image.new ≡ (run_on s image.old samples.old n).image }
-    ensures samples_after { samples.new ≡ (run_on s image.old samples.old n).lent }
+fn run_long(
+    s: KnownState,
+    n: u64,
+    samples: &mut [u8],
+    image: &mut [u8],
+) -> Result<u64, Refusal>
+    requires { room_for (option_set s.state) (length image.old) ≡ true }
+    ensures value { word_of result ≡ (run_on s.state image.old samples.old n).word }
+    ensures image_after { image.new ≡ (run_on s.state image.old samples.old n).image }
+    ensures samples_after { samples.new ≡ (run_on s.state image.old samples.old n).lent }
 {
     let mut buf = [0.0f32; SAMPLES_MOST];
     run_through(s, n, samples, image, &mut buf)
 }
 
 // A run from a state, and the image of the state after it.
-pub fn run_on(s: State, n: u64, samples: &mut [u8], image: &mut [u8]) -> u64
-    requires { (room_for (option_set s) (length image.old) ≡ true) × Known s }
-    ensures value { result ≡ (run_on s image.old samples.old n).word }
-    ensures image_after { image.new ≡ (run_on s image.old samples.old n).image }
-    ensures samples_after { samples.new ≡ (run_on s image.old samples.old n).lent }
+pub fn run_on(
+    s: KnownState,
+    n: u64,
+    samples: &mut [u8],
+    image: &mut [u8],
+) -> Result<u64, Refusal>
+    requires { room_for (option_set s.state) (length image.old) ≡ true }
+    ensures value { word_of result ≡ (run_on s.state image.old samples.old n).word }
+    ensures image_after { image.new ≡ (run_on s.state image.old samples.old n).image }
+    ensures samples_after { samples.new ≡ (run_on s.state image.old samples.old n).lent }
 {
     if n <= SHORT_RUN {
         return run_short(s, n, samples, image);

@@ -1,12 +1,12 @@
 -- No refusal has the number 0, which says accepted.
 use borrow.Author.Tests.{ne_eqb}
-use Rattle.std.specs.Prelude.{◌≡◌, false, eqb, Result, Ok, Err, IsErrAnd}
+use Rattle.std.specs.Prelude.{ℕ, ◌≡◌, false, eqb, Result, Ok, Err, IsErrAnd}
 use Prim.Native.Nat.{◌<◌}
 use native.Mathlib.Omega.{arith}
 use Rattle.refusals.specs.declared.Refusal.{Refusal}
 use Rattle.refusals.specs.declared.Refusal.TheVariants.{Image, State, Kind, Mapper, Size, Reserve, Arena, Address, Fill, Clocks, Room}
 use Rattle.refusals.specs.declared.Refusal.TheVariants.{Battery, Block, Full}
-use Rattle.refusals.specs.Refusal.{number_of, refusal_of}
+use Rattle.refusals.specs.Refusal.{number_of, refusal_of, word_of}
 
 positive : (r : Refusal) → 0 < number_of r
 positive Image = omega arith
@@ -34,6 +34,9 @@ errs (Err f) e h = rw h
 
 pub passed : {A : Type 0} (r : Result A Refusal) (e : Refusal) → IsErrAnd r (λ f. f ≡ e) → refusal_of r ≡ number_of e
 passed r e h = rw (errs r e h)
+
+pub passed-word : (r : Result ℕ Refusal) (e : Refusal) → IsErrAnd r (λ f. f ≡ e) → word_of r ≡ number_of e
+passed-word r e h = rw (errs r e h)
 
 -- so the test for 0 fails
 pub refuses : (e : Refusal) → eqb (number_of e) 0 ≡ false

@@ -10,9 +10,9 @@ use Rattle.sound.specs.Levels.{whole}
 use Rattle.sound_wave.specs.Channel.{length_of, level_of}
 use Rattle.sound_wave.specs.Mix.{mix_of}
 use Rattle.board_state.specs.declared.State.{State}
-use Rattle.call_cpu.specs.declared.calls.Written.{Written}
+use Rattle.call_cpu.specs.Calls.{WriteAnswer}
 use Rattle.call_cpu.specs.Calls.{cpu_write}
-use Rattle.call_load.specs.declared.Loaded.{Loaded}
+use Rattle.call_load.specs.Cartridge.{Loaded}
 use Rattle.board_state.specs.State.{no_options}
 use Rattle.call_load.specs.Cartridge.{load_answer}
 use Rattle.call_run.specs.Run.{clocks, run_gave}
@@ -33,7 +33,7 @@ abbrev pub p : State
 p = (load_p 128).state
 
 -- L7: a CPU write, its arena as load leaves it
-abbrev pub write : State → ℕ → ℕ → Written
+abbrev pub write : State → ℕ → ℕ → WriteAnswer
 write s addr v = cpu_write s (replicate bytes_p 0) addr v
 
 abbrev pub after : State → ℕ → ℕ → State
@@ -53,7 +53,7 @@ abbrev pub chr : State → ℕ → ℕ
 chr s k = (get_or s.memory.chr_pages k unmapped).0
 
 -- L15: a write's answer: its number, the mask, the count and the lowest page of each table
-abbrev pub answered : Written → ℕ → ℕ → ℕ → ℕ → ℕ → ℕ → List (ℕ × ℕ)
+abbrev pub answered : WriteAnswer → ℕ → ℕ → ℕ → ℕ → ℕ → ℕ → List (ℕ × ℕ)
 answered w mask count lowest chr_mask chr_count chr_lowest =
     (w.refusal, 0) ∷ (w.changed.prg.mask, mask) ∷ (w.changed.prg.count, count) ∷ (w.changed.prg.lowest, lowest)
     ∷ (w.changed.chr.mask, chr_mask) ∷ (w.changed.chr.count, chr_count) ∷ (w.changed.chr.lowest, chr_lowest)

@@ -41,7 +41,7 @@ use Rattle.board_state.specs.State.{mapper_ok, Known, with_chip}
 use Rattle.board_state.proofs.Range.{mapper-in, known-passes}
 use Rattle.call_refusals.specs.Refusals.{first_of, cpu_checks, reset_checks, load_checks}
 use Rattle.call_refusals.proofs.Laws.{accepted-none, fill-good, battery-good, backed}
-use Rattle.call_cpu.specs.declared.calls.Written.{Written}
+use Rattle.call_cpu.specs.Calls.{WriteAnswer}
 use Rattle.call_cpu.specs.Calls.{write_register, cpu_write as cpu_write_gives}
 use Rattle.call_reset.specs.Reset.{kind_of}
 use Rattle.call_battery.specs.Battery.{battery_bytes}
@@ -191,7 +191,7 @@ restore-fits h f e =
 pub cpu-write-mask : (s : State) (arena : List ℕ) (addr v : ℕ) → (cpu_write_gives s arena addr v).changed.prg.mask % 2 ^ 24 ≡ 0
 unfolding cpu_write_gives changes prg_changes
 cpu-write-mask s arena addr v =
-    cond-holds (λ (w : Written). w.changed.prg.mask % 2 ^ 24 ≡ 0) (eqb (first_of (cpu_checks s (length arena) addr)) 0) _ _
+    cond-holds (λ (w : WriteAnswer). w.changed.prg.mask % 2 ^ 24 ≡ 0) (eqb (first_of (cpu_checks s (length arena) addr)) 0) _ _
     (mask-multiple 24 s.memory.prg_pages (write_register s addr v).memory.prg_pages (register-stays s addr v).kept.low) refl
 
 -- from a fit state a CPU call at 4800 or above is accepted, and so is a reset of kind 0 or 1

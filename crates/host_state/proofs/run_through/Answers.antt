@@ -13,7 +13,9 @@ use Rattle.board_state.specs.State.{Known}
 use Rattle.call_refusals.specs.Refusals.{first_of, state_check}
 use Rattle.image_write.specs.Options.{image_at, option_set, room_for}
 use Rattle.call_run.specs.declared.run.Ran.{Ran}
-use Rattle.call_run.specs.Run.{clocks}
+use Rattle.call_run.specs.Run.{clocks, RunAnswer}
+use Rattle.refusals.proofs.Numbers.{numbered, errs}
+use Rattle.call_refusals.proofs.Laws.{known-state}
 use Rattle.thm_range.proofs.Calls.{clocks-known}
 use Rattle.host_samples.specs.Samples.{sample_bytes}
 use Rattle.host_samples.proofs.Laws.{run-number, ended, samples-numbers}
@@ -27,60 +29,69 @@ call : (s : State) (image samples : List ℕ) (n : ℕ) {r : ℕ} → r ≡ firs
     Called (state_check s ∷ run_own s samples n) image samples gives gives r
 call s image samples n number = called (state_check s ∷ run_own s samples n) _ _ _ _ _ number refl
 
-pub returns-then-ran-ne0 : goal.returns-then-ran-ne0
-returns-then-ran-ne0 c =
-    let number = ap (λ (x : Ran). x.refusal) c.run_into-ran.ensures.0 ∙ run-number _ _ _ _ in
-    let e = (call c.args.s c.args.image.now c.args.samples.now c.args.n number).refused c.if-ran-ne0.true in
-    record { value = word_of e; image_after = image-of e; samples_after = lent_of e }
+pub returns-in_err-ran : goal.returns-in_err-ran
+returns-in_err-ran c =
+    let number = ap (λ (x : RunAnswer). x.refusal) c.in_err-ran.ensures.0 ∙ run-number _ _ _ _ in
+    let e = (call c.args.s.state c.args.image.now c.args.samples.now c.args.n number).refused (numbered _) in
+    record {
+      value = rw (errs _ _ c.from_residual.ensures.1) (word_of e);
+      image_after = image-of e;
+      samples_after = lent_of e;
+    }
 
 -- `end` here and below is what the accepted run leaves in the buffer
 pub put_samples-requires : goal.put_samples-requires
 put_samples-requires c =
     let a = c.args in
-    let ran = c.run_into-ran in
-    let end = ended a.s a.n a.samples.now _ ran.result ran.new.buf ran.ensures c.requires.1 c.if-ran-ne0.false in
+    let ran = c.in_ok-ran in
+    let k = known-state a.s _ c.well_formed.0 in
+    let end = ended a.s.state a.n a.samples.now _ ran.ran c.run_into.new.buf ran.ensures k in
     record {
-      k_in_bounds = (omega (arith, end.held (length a.buf.now) c.requires.2, ran.auto.buf), end.lent);
+      k_in_bounds = (omega (arith, end.held (length a.buf.now) c.requires.1, c.run_into.auto.buf), end.lent);
       by_index = λ j h.
-          rw (sym (get_or-take ran.result.made ran.new.buf j nan h) ∙ ap (λ (l : List Float). get_or l j nan) end.first)
-          (samples-numbers a.s a.n c.requires.1 j (subst (λ (x : ℕ). j < x) (ap (λ (x : Ran). x.made) end.is) h));
+          rw (sym (get_or-take ran.ran.made c.run_into.new.buf j nan h) ∙ ap (λ (l : List Float). get_or l j nan) end.first)
+          (samples-numbers a.s.state a.n k j (subst (λ (x : ℕ). j < x) (ap (λ (x : Ran). x.made) end.is) h));
     }
 
 pub put_image-requires : goal.put_image-requires
 put_image-requires c =
     let a = c.args in
-    let ran = c.run_into-ran in
-    let end = ended a.s a.n a.samples.now _ ran.result ran.new.buf ran.ensures c.requires.1 c.if-ran-ne0.false in
+    let ran = c.in_ok-ran in
+    let k = known-state a.s _ c.well_formed.0 in
+    let end = ended a.s.state a.n a.samples.now _ ran.ran c.run_into.new.buf ran.ensures k in
     subst (λ (x : Ran). (room_for (option_set x.state) (length a.image.now) ≡ true) × Known x.state) (sym end.is)
-    (room-clocks a.s a.n (length a.image.now) c.requires.0, clocks-known a.n a.s c.requires.1)
+    (room-clocks a.s.state a.n (length a.image.now) c.requires.0, clocks-known a.n a.s.state k)
 
 pub overflow_mul-result : goal.overflow_mul-result
 overflow_mul-result c =
     let a = c.args in
-    let ran = c.run_into-ran in
-    let end = ended a.s a.n a.samples.now _ ran.result ran.new.buf ran.ensures c.requires.1 c.if-ran-ne0.false in
+    let ran = c.in_ok-ran in
+    let k = known-state a.s _ c.well_formed.0 in
+    let end = ended a.s.state a.n a.samples.now _ ran.ran c.run_into.new.buf ran.ensures k in
     omega (arith, end.buffer)
 
 pub overflow_add-result : goal.overflow_add-result
 overflow_add-result c =
     let a = c.args in
-    let ran = c.run_into-ran in
-    let end = ended a.s a.n a.samples.now _ ran.result ran.new.buf ran.ensures c.requires.1 c.if-ran-ne0.false in
-    omega (arith, end.buffer, c.struct_known-2-1.given)
+    let ran = c.in_ok-ran in
+    let k = known-state a.s _ c.well_formed.0 in
+    let end = ended a.s.state a.n a.samples.now _ ran.ran c.run_into.new.buf ran.ensures k in
+    omega (arith, end.buffer)
 
 pub returns : goal.returns
 returns c =
     let a = c.args in
-    let ran = c.run_into-ran in
-    let w = (clocks a.n a.s).stretch.samples in
-    let end = ended a.s a.n a.samples.now _ ran.result ran.new.buf ran.ensures c.requires.1 c.if-ran-ne0.false in
-    let number = ap (λ (x : Ran). x.refusal) ran.ensures.0 ∙ run-number _ _ _ _ in
-    let e = (call a.s a.image.now a.samples.now a.n number).accepted c.if-ran-ne0.false in
+    let ran = c.in_ok-ran in
+    let w = (clocks a.n a.s.state).stretch.samples in
+    let k = known-state a.s _ c.well_formed.0 in
+    let end = ended a.s.state a.n a.samples.now _ ran.ran c.run_into.new.buf ran.ensures k in
+    let number = ap (λ (x : RunAnswer). x.refusal) ran.ensures.0 ∙ run-number _ _ _ _ in
+    let e = (call a.s.state a.image.now a.samples.now a.n number).accepted refl in
     record {
       value = ap (λ (x : Ran). x.made * 256 + x.rise * 4294967296) end.is ∙ word_of e;
       image_after = c.put_image.ensures ∙ ap (λ (x : Ran). image_at (length a.image.now) x.state) end.is ∙ image-of e;
       samples_after = c.put_samples.ensures
-          ∙ ap (λ (x : List Float). each sample_bytes x ++ drop (4 * ran.result.made) a.samples.now) end.first
+          ∙ ap (λ (x : List Float). each sample_bytes x ++ drop (4 * ran.ran.made) a.samples.now) end.first
           ∙ ap (λ (x : Ran). each sample_bytes w ++ drop (4 * x.made) a.samples.now) end.is
           ∙ lent_of e;
     }
