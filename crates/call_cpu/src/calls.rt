@@ -11,7 +11,7 @@ use board_registers::writes;
 use board_state::{State, in_range};
 use call_answers::Peeked;
 use call_refusals::{cpu_refusal, cpu_refusal_known};
-use memory::changes::{Changed, ChrChanges, PrgChanges, changes_between};
+use memory::changes::{Changed, changes_between};
 use memory_bytes::bytes;
 
 // A read's answer. In each answer `refusal` is 0 for accepted.
@@ -121,21 +121,10 @@ pub fn write_register(s: State, addr: u16, val: u8) -> State
 pub fn refused_write(s: State, q: u8) -> Written
     ensures { result ≡ refused_write s q }
 {
-    let prg = PrgChanges {
-        mask: 0,
-        count: 0,
-        lowest: 0,
-    };
-    let chr = ChrChanges {
-        mask: 0,
-        count: 0,
-        lowest: 0,
-    };
-    let changed = Changed { prg: prg, chr: chr };
     Written {
         refusal: q,
         state: s,
-        changed: changed,
+        changed: Changed::NONE,
     }
 }
 
@@ -153,7 +142,7 @@ pub fn cpu_write_known(s: State, arena: &mut [u8], addr: u16, val: u8) -> Writte
     bytes::prg_write(m, arena, addr, val);
     let after = write_register(s, addr, val);
     let mapped = after.memory;
-    let changed = changes_between(m, mapped);
+    let changed = changes_between(&m, &mapped);
     Written {
         refusal: 0,
         state: after,

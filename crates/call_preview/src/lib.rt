@@ -42,7 +42,7 @@ pub fn preview_known(s: State, arena: &[u8], addr: u16, val: u8) -> Previewed
     let m = s.memory;
     let after = write_register(s, addr, val);
     let mapped = after.memory;
-    let changed = changes_between(m, mapped);
+    let changed = changes_between(&m, &mapped);
     Previewed {
         refusal: 0,
         changed: changed,
