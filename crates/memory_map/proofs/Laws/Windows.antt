@@ -40,10 +40,6 @@ unfolding each_page
 turned-next t more =
     record { within = omega arith; long = simp (length-set, t.long); made = rw (add-one, t.made) }
 
-pub turned-all : {k : ℕ} {f : ℕ → Page → Page} {slot count : ℕ} {start : List Page} {i : ℕ} {pages : List Page}
-    → Turned k f slot count start i pages → count ≤ i → (pages ≡ each_page k f slot count start) × (length pages ≡ k)
-turned-all {count = count} {i = i} t end = let e : i ≡ count = omega arith in (rw e at t.made, t.long)
-
 -- ---- banks
 
 pub banks-pos : (len s : ℕ) → 0 < banks_of len s
