@@ -13,7 +13,6 @@ use board_state::State;
 use call_answers::Altered;
 use call_refusals::battery_refusal;
 use memory::layout::Src;
-use memory_bytes::bytes::copy;
 use sound::audio::Audio;
 
 // Where the battery's used bytes begin in the arena.
@@ -32,8 +31,7 @@ fn put_ram(part: &mut [u8], audio: Audio)
     requires { length part.old ≡ 128 }
     ensures { part.new ≡ audio.ram }
 {
-    let ram = audio.ram;
-    copy(part, &ram);
+    part.copy_from_slice(&audio.ram);
 }
 
 fn get_ram(part: &[u8]) -> [u8; Audio::RAM_SIZE]
@@ -41,7 +39,7 @@ fn get_ram(part: &[u8]) -> [u8; Audio::RAM_SIZE]
     ensures { result ≡ part.now }
 {
     let mut ram = [0u8; Audio::RAM_SIZE];
-    copy(&mut ram, part);
+    ram.copy_from_slice(part);
     ram
 }
 

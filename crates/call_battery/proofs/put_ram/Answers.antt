@@ -3,5 +3,5 @@ use mathlib.Core.Path.{sym, ◌∙◌}
 use Rattle.sound.proofs.audio.Typed.{typed}
 use Rattle.call_battery.proofs.put_ram.Goals as goal
 
-pub copy-requires : goal.copy-requires
-copy-requires c = (typed c.args.audio _ c.well_formed.1.0).ram_length ∙ sym c.requires
+pub copy_from_slice-requires : goal.copy_from_slice-requires
+copy_from_slice-requires c = (typed c.args.audio _ c.well_formed.1.0).ram_length ∙ sym c.requires
