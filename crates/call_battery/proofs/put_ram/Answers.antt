@@ -4,4 +4,4 @@ use Rattle.sound.proofs.audio.Typed.{typed}
 use Rattle.call_battery.proofs.put_ram.Goals as goal
 
 pub copy_from_slice-requires : goal.copy_from_slice-requires
-copy_from_slice-requires c = (typed c.args.audio _ c.well_formed.1.0).ram_length ∙ sym c.requires
+copy_from_slice-requires c = c.requires ∙ sym (typed c.args.audio _ c.well_formed.1.0).ram_length
