@@ -1,9 +1,9 @@
 // Write protection of the 163 (L19 to L21): a layer over the page tables and the registers of the Rust, which know no edition.
 #![tactic(auto)]
 
-ghost use Rattle.std.specs.Prelude.{◌/◌, ◌<◌, ◌≡◌, length};
+ghost use Rattle.std.specs.Prelude.{◌/◌, ◌<◌, ◌≡◌};
 ghost use Rattle.memory.specs.Range.{Sized};
-ghost use Rattle.memory_map.specs.Windows.{each_page, with_flag};
+ghost use Rattle.memory_map.specs.Windows.{with_flag};
 ghost use Rattle.board_protection.specs.Protection.{unprotected, protect_parts, remap_banks, remaps_in};
 
 use board_banking::update_banks;
@@ -11,6 +11,7 @@ use board_chip::namco163::{Board, Namco163};
 use board_registers::writes::remaps;
 use memory::Memory;
 use memory::page::Page;
+use memory_map::table::each_page;
 use memory_map::windows::with_flag;
 
 // Whether a part of 2,048 bytes takes stores, by the byte of F800.
@@ -18,66 +19,37 @@ fn unprotected(protect: u8, part: u8) -> bool
     requires { part < 4 }
     ensures { result ≡ unprotected protect part }
 {
-    if protect / 16 != 4 {
-        return false;
-    }
-    (protect >> part) % 2 != 1
+    (protect / 16 == 4) & ((protect >> part) % 2 != 1)
 }
 
 // The eight entries of 6000..7FFF, two to a part.
-fn part_flags(pages: [Page; 64], protect: u8) -> [Page; 64]
-    ensures { (result ≡ each_page 64 (λ i old. with_flag (unprotected protect (i / 2)) old) 24 8 pages) × (length result ≡ 64) }
+fn protect_parts(m: &mut Memory, protect: u8)
+    ensures { m.new ≡ protect_parts protect m.old }
 {
-    let mut out = pages;
-    let mut i: usize = 0;
-    while i < 8 {
-        let writable = unprotected(protect, (i / 2) as u8);
-        let at = (24 + i) % 64;
-        let page = out[at];
-        out[at] = with_flag(page, writable);
-        i += 1;
-    }
-    out
-}
-
-fn protect_parts(m: Memory, protect: u8) -> Memory
-    ensures { result ≡ protect_parts protect m }
-{
-    let pages = m.prg_pages;
-    let flagged = part_flags(pages, protect);
-    let mut out = m;
-    out.prg_pages = flagged;
-    out
+    let flagged = |i: usize, page: Page|
+        requires { i < 8 }
+        ensures { result ≡ with_flag (unprotected protect (i / 2)) page }
+    { with_flag(page, unprotected(protect, (i / 2) as u8)) };
+    each_page(&mut m.prg_pages, 24, 8, flagged);
 }
 
 // The page tables by the registers, in either edition. The flags are set after the Rust's own mapping, which opens all of a 163.
-pub fn remap_banks(protects: bool, chip: Namco163, m: Memory) -> Memory
+pub fn remap_banks(protects: bool, chip: Namco163, mut m: Memory) -> Memory
     requires { Sized m }
     ensures { result ≡ remap_banks protects chip m }
 {
-    let mapped = update_banks(chip, m);
-    let board = chip.board;
-    if !protects {
-        return mapped;
+    update_banks(&chip, &mut m);
+    if !(protects & chip.board.is_163()) {
+        return m;
     }
-    if board.is_163() {
-        return protect_parts(mapped, chip.regs.prg_ram_protect);
-    }
-    mapped
+    protect_parts(&mut m, chip.regs.prg_ram_protect);
+    m
 }
 
 // Whether a write makes the tables anew.
+#[tactic(auto, unfolding(crate::specs::Protection::remaps_in))]
 pub fn remaps_in(protects: bool, old: Board, new: Board, addr: u16) -> bool
     ensures { result ≡ remaps_in protects old new addr }
 {
-    if remaps(old, new, addr) {
-        return true;
-    }
-    if !protects {
-        return false;
-    }
-    if addr < 0xF800 {
-        return false;
-    }
-    new.is_163()
+    remaps(old, new, addr) | (protects & ((0xF800 <= addr) & new.is_163()))
 }

@@ -51,7 +51,5 @@ fn chip_ok(chip: Namco163) -> bool
 pub fn in_range(s: State) -> bool
     ensures { result ≡ in_range s }
 {
-    let chip = s.chip;
-    let m = s.memory;
-    chip_ok(chip) & memory_ok(m)
+    chip_ok(s.chip) & memory_ok(&s.memory)
 }

@@ -23,7 +23,7 @@ fn battery_start(m: Memory) -> usize
     requires { Sized m }
     ensures { result ≡ (region_in m BatteryExt).start }
 {
-    m.layout.region(m.battery_ext_len, Src::BatteryExt).start
+    m.region(Src::BatteryExt).start
 }
 
 // F6: copies the sound RAM over the 128 bytes of the arena from a place on.

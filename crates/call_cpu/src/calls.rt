@@ -90,7 +90,7 @@ pub fn cpu_write_known(
     check_cpu_known(s, arena.len(), addr)?;
     bytes::prg_write(s.state.memory, arena, addr, val);
     let state = write_register(s.state, addr, val);
-    let changed = changes_between(s.state.memory, state.memory);
+    let changed = changes_between(&s.state.memory, &state.memory);
     Ok(Written { state, changed })
 }
 

@@ -18,7 +18,7 @@ pub fn preview_known(s: KnownState, arena: &[u8], addr: u16, val: u8) -> Result<
 {
     check_cpu_known(s, arena.len(), addr)?;
     let after = write_register(s.state, addr, val);
-    Ok(changes_between(s.state.memory, after.memory))
+    Ok(changes_between(&s.state.memory, &after.memory))
 }
 
 pub fn preview(s: State, arena: &[u8], addr: u16, val: u8) -> Result<Changed, Refusal>

@@ -57,7 +57,7 @@ pub fn check_fill(s: State, len: usize, src: Src, n: usize) -> Result<(), Refusa
     ensures { refusal_of result ≡ first_of (fill_checks s len src n) }
 {
     check_arena(s, len)?;
-    if s.memory.layout.region(s.memory.battery_ext_len, src).len < n {
+    if s.memory.region(src).len < n {
         return Err(Refusal::Fill);
     }
     Ok(())

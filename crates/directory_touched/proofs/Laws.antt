@@ -13,6 +13,7 @@ use lib.Dec.{eqb}
 use lib.ListN.{length, get_or, drop, length-drop, drop_of_length-le}
 use lib.Seq.{drop-cons}
 use lib.Pow.{pow_mono}
+use mir.Val.{bool_byte}
 use Rattle.memory.specs.declared.page.Page.{Page}
 use Rattle.memory_bytes.specs.Bytes.{shown_at, store}
 use Rattle.memory.specs.Changes.{same, changed}
@@ -26,9 +27,14 @@ use Rattle.directory_touched.specs.Touched.{shows_byte, shows, touched_at, shown
 
 -- ---- the mask as the loop makes it
 
-bit_le : (b : Bool) → cond b 1 0 ≤ 1
+pub bit_le : (b : Bool) → cond b 1 0 ≤ 1
 bit_le true = omega arith
 bit_le false = omega arith
+
+-- the bit that a test makes
+pub bit-of_bool : (b : Bool) → bool_byte b ≡ cond b 1 0
+bit-of_bool true = refl
+bit-of_bool false = refl
 
 shown-lt : (ps : List Page) (i : ℕ) → shown_mask ps i < 2 ^ length ps
 unfolding shown_mask

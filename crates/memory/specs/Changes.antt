@@ -2,8 +2,7 @@
 use Rattle.std.specs.Prelude.{ℕ, suc, ◌+◌, ◌*◌, Bool, cond, List, [], ◌∷◌, eqb, length}
 use Rattle.memory.specs.declared.Memory.{Memory}
 use Rattle.memory.specs.declared.changes.Changed.{Changed}
-use Rattle.memory.specs.declared.changes.PrgChanges.{PrgChanges}
-use Rattle.memory.specs.declared.changes.ChrChanges.{ChrChanges}
+use Rattle.memory.specs.declared.changes.Changes.{Changes}
 use Rattle.memory.specs.declared.page.Page.{Page}
 
 -- R6: all 32 bits count, so another flag is another entry
@@ -33,11 +32,14 @@ lowest_changed (a ∷ old) [] = suc (length old)
 lowest_changed (a ∷ old) (b ∷ new) = cond (same a b) (suc (lowest_changed old new)) 0
 
 -- what a CPU write answers of each table: mask, count and lowest
-unfoldable pub prg_changes : List Page → List Page → PrgChanges
-prg_changes old new = record { mask = changed old new; count = count_changed old new; lowest = lowest_changed old new }
+abbrev pub table_changes : List Page → List Page → Changes ℕ
+table_changes old new = record { mask = changed old new; count = count_changed old new; lowest = lowest_changed old new }
 
-unfoldable pub chr_changes : List Page → List Page → ChrChanges
-chr_changes old new = record { mask = changed old new; count = count_changed old new; lowest = lowest_changed old new }
+unfoldable pub prg_changes : List Page → List Page → Changes ℕ
+prg_changes old new = table_changes old new
+
+unfoldable pub chr_changes : List Page → List Page → Changes ℕ
+chr_changes old new = table_changes old new
 
 -- L15: the answer for both tables
 unfoldable pub changes : Memory → Memory → Changed

@@ -1,6 +1,5 @@
 // The layout of the arena: sizes in bytes, page counts, and the regions' places.
 ghost use Rattle.std.specs.Prelude.{◌+◌, ◌*◌, ◌≤◌, ◌<◌, ◌≡◌};
-ghost use Rattle.memory.specs.declared.layout.Src.TheVariants.{PrgRam, BatteryExt, Chr, CiRam};
 ghost use Rattle.limits.specs.Limits.{arena_most};
 ghost use Rattle.memory.specs.Layout.{within_limits, pages_for, ciram_bytes, layout_of, first_page, arena_len, region_of};
 ghost use Rattle.memory.specs.Range.{GoodLayout};
@@ -48,6 +47,7 @@ pub struct Region {
 }
 
 impl MemoryLayout {
+    #[tactic(auto, unfolding(crate::specs::Layout::within_limits))]
     pub fn within_limits(self) -> bool
         ensures { result ≡ within_limits self }
     {
@@ -63,8 +63,7 @@ impl MemoryLayout {
 fn pages_for(bytes: u64) -> usize
     ensures { result ≡ pages_for bytes }
 {
-    let whole = (bytes / 1024) as usize;
-    if bytes % 1024 == 0 { whole } else { whole + 1 }
+    bytes.div_ceil(1024) as usize
 }
 
 // A console without a stated CIRAM has 2,048 bytes.
@@ -75,6 +74,7 @@ fn ciram_bytes(bytes: u64) -> u64
 }
 
 impl Layout {
+    #[tactic(auto, unfolding(crate::specs::Layout::layout_of))]
     pub fn new(sizes: MemoryLayout) -> Layout
         ensures { result ≡ layout_of sizes }
     {
@@ -96,46 +96,24 @@ impl Layout {
         1024 * (1 + self.prg_rom + self.prg_ram + self.battery_ext + self.chr + self.ciram)
     }
 
-    // The first page behind what is ROM.
-    fn ram_page(self) -> usize
+    // The first page of a region: CHR that is ROM stands behind PRG-ROM, CHR that is RAM behind the battery.
+    fn first_page(self, src: Src) -> usize
         requires { GoodLayout self }
-        ensures { (result ≡ first_page self PrgRam) × (result < 1024) }
+        ensures { (result ≡ first_page self src) × (result < 1024) }
     {
-        if self.chr_writable {
-            1 + self.prg_rom
+        let rom_end = 1 + self.prg_rom;
+        let (ram, chr) = if self.chr_writable {
+            (rom_end, rom_end + self.prg_ram + self.battery_ext)
         } else {
-            1 + self.prg_rom + self.chr
+            (rom_end + self.chr, rom_end)
+        };
+        match src {
+            Src::PrgRom => 1,
+            Src::PrgRam => ram,
+            Src::BatteryExt => ram + self.prg_ram,
+            Src::Chr => chr,
+            Src::CiRam => rom_end + self.prg_ram + self.battery_ext + self.chr,
         }
-    }
-
-    fn battery_page(self) -> usize
-        requires { GoodLayout self }
-        ensures { (result ≡ first_page self BatteryExt) × (result < 1024) }
-    {
-        if self.chr_writable {
-            1 + self.prg_rom + self.prg_ram
-        } else {
-            1 + self.prg_rom + self.chr + self.prg_ram
-        }
-    }
-
-    fn chr_page(self) -> usize
-        requires { GoodLayout self }
-        ensures { (result ≡ first_page self Chr) × (result < 1024) }
-    {
-        if self.chr_writable {
-            1 + self.prg_rom + self.prg_ram + self.battery_ext
-        } else {
-            1 + self.prg_rom
-        }
-    }
-
-    // CHR stands before CIRAM whether it is ROM or RAM.
-    fn ciram_page(self) -> usize
-        requires { GoodLayout self }
-        ensures { (result ≡ first_page self CiRam) × (result < 1024) }
-    {
-        1 + self.prg_rom + self.prg_ram + self.battery_ext + self.chr
     }
 
     // A region, given how much of the battery reserve is used.
@@ -143,32 +121,17 @@ impl Layout {
         requires { (GoodLayout self) × (battery_ext_len ≤ 1024 * self.battery_ext) }
         ensures { (result ≡ region_of self battery_ext_len src) × (result.start + result.len ≤ arena_most) }
     {
-        match src {
-            Src::PrgRom => Region {
-                start: 1024,
-                len: 1024 * self.prg_rom,
-                writable: false,
-            },
-            Src::PrgRam => Region {
-                start: 1024 * self.ram_page(),
-                len: 1024 * self.prg_ram,
-                writable: true,
-            },
-            Src::BatteryExt => Region {
-                start: 1024 * self.battery_page(),
-                len: battery_ext_len,
-                writable: true,
-            },
-            Src::Chr => Region {
-                start: 1024 * self.chr_page(),
-                len: 1024 * self.chr,
-                writable: self.chr_writable,
-            },
-            Src::CiRam => Region {
-                start: 1024 * self.ciram_page(),
-                len: 1024 * self.ciram,
-                writable: true,
-            },
+        let (len, writable) = match src {
+            Src::PrgRom => (1024 * self.prg_rom, false),
+            Src::PrgRam => (1024 * self.prg_ram, true),
+            Src::BatteryExt => (battery_ext_len, true),
+            Src::Chr => (1024 * self.chr, self.chr_writable),
+            Src::CiRam => (1024 * self.ciram, true),
+        };
+        Region {
+            start: 1024 * self.first_page(src),
+            len,
+            writable,
         }
     }
 }

@@ -1,7 +1,12 @@
 // The board's memory: page entries, the layout of the arena, the two page tables, their range and which entries of them change.
 #![tactic(auto)]
 
-use layout::Layout;
+ghost use Rattle.std.specs.Prelude.{◌+◌, ◌≤◌, ◌≡◌};
+ghost use Rattle.limits.specs.Limits.{arena_most};
+ghost use Rattle.memory.specs.Memory.{region_in};
+ghost use Rattle.memory.specs.Range.{Sized};
+
+use layout::{Layout, Region, Src};
 use page::Page;
 
 pub mod changes; // changes.rt: which entries changed
@@ -18,4 +23,14 @@ pub struct Memory {
     pub battery_ext_len: usize,
     pub prg_pages: [Page; 64],
     pub chr_pages: [Page; 16],
+}
+
+impl Memory {
+    // A region, by how much of the battery reserve is used.
+    pub fn region(&self, src: Src) -> Region
+        requires { Sized self.now }
+        ensures { (result ≡ region_in self.now src) × (result.start + result.len ≤ arena_most) }
+    {
+        self.layout.region(self.battery_ext_len, src)
+    }
 }

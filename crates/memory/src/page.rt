@@ -3,7 +3,7 @@ ghost use Rattle.std.specs.Prelude.{◌^◌, ◌<◌, ◌≡◌};
 ghost use Rattle.memory.specs.Page.{page_of, offset_of, writable_of};
 
 // An entry of a page table: a byte offset into the arena and a flag.
-#[derive(Clone, Copy)]
+#[derive(Clone, Copy, PartialEq, Eq)]
 pub struct Page(pub u32);
 
 impl Page {

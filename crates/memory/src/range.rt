@@ -1,7 +1,7 @@
 // Whether the page counts, the used reserve and the entries are in range: R9.
 ghost use Rattle.std.specs.Prelude.{◌≤◌, ◌≡◌};
 ghost use Rattle.limits.specs.Every.{every};
-ghost use Rattle.limits.specs.Limits.{prg_entries, chr_entries, arena_most};
+ghost use Rattle.limits.specs.Limits.{arena_most};
 ghost use Rattle.memory.specs.Range.{layout_ok, used_ok, entry_ok, entry_test, memory_ok};
 
 use crate::Memory;
@@ -9,6 +9,7 @@ use crate::layout::Layout;
 use crate::page::Page;
 use limits::{BATTERY_PAGES, CHR_PAGES, CIRAM_PAGES, PRG_RAM_PAGES, PRG_ROM_PAGES, USED_MOST};
 
+#[tactic(auto, unfolding(crate::specs::Range::layout_ok))]
 fn layout_ok(l: Layout) -> bool
     ensures { result ≡ layout_ok l }
 {
@@ -18,6 +19,7 @@ fn layout_ok(l: Layout) -> bool
                 & ((l.chr <= CHR_PAGES) & ((l.ciram <= CIRAM_PAGES) & (1 <= l.ciram)))))
 }
 
+#[tactic(auto, unfolding(crate::specs::Range::used_ok))]
 fn used_ok(used: usize, l: Layout) -> bool
     ensures { result ≡ used_ok used l }
 {
@@ -25,6 +27,7 @@ fn used_ok(used: usize, l: Layout) -> bool
 }
 
 // An entry of an arena of so many bytes. No test is skipped, so that many entries are tested at a time.
+#[tactic(auto, unfolding(crate::specs::Range::entry_ok))]
 fn entry_ok(bytes: u32, p: Page) -> bool
     requires { bytes ≤ arena_most }
     ensures { result ≡ entry_ok bytes p }
@@ -33,43 +36,25 @@ fn entry_ok(bytes: u32, p: Page) -> bool
     (offset % 1024 == 0) & ((offset < bytes) & (p.0 / 0x4000_0000 % 2 != 1))
 }
 
-fn prg_ok(bytes: u32, pages: [Page; 64]) -> bool
+// Whether each entry of a table passes.
+fn table_ok<const N: usize>(bytes: u32, pages: &[Page; N]) -> bool
     requires { bytes ≤ arena_most }
-    ensures { result ≡ every prg_entries (entry_test bytes pages) }
+    ensures { result ≡ every N (entry_test bytes pages.now) }
 {
     let mut ok = true;
-    let mut i: usize = 0;
-    while i < 64 {
-        let p = pages[i];
-        ok = ok & entry_ok(bytes, p);
-        i += 1;
+    for p in pages {
+        ok &= entry_ok(bytes, *p);
     }
     ok
 }
 
-fn chr_ok(bytes: u32, pages: [Page; 16]) -> bool
-    requires { bytes ≤ arena_most }
-    ensures { result ≡ every chr_entries (entry_test bytes pages) }
+pub fn memory_ok(m: &Memory) -> bool
+    ensures { result ≡ memory_ok m.now }
 {
-    let mut ok = true;
-    let mut i: usize = 0;
-    while i < 16 {
-        let p = pages[i];
-        ok = ok & entry_ok(bytes, p);
-        i += 1;
-    }
-    ok
-}
-
-pub fn memory_ok(m: Memory) -> bool
-    ensures { result ≡ memory_ok m }
-{
-    let layout = m.layout;
-    if !layout_ok(layout) {
+    if !layout_ok(m.layout) {
         return false;
     }
-    let bytes = layout.arena_len() as u32;
-    let prg = m.prg_pages;
-    let chr = m.chr_pages;
-    used_ok(m.battery_ext_len, layout) & (prg_ok(bytes, prg) & chr_ok(bytes, chr))
+    let bytes = m.layout.arena_len() as u32;
+    used_ok(m.battery_ext_len, m.layout)
+        & (table_ok(bytes, &m.prg_pages) & table_ok(bytes, &m.chr_pages))
 }

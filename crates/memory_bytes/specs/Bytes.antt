@@ -1,5 +1,6 @@
 -- M8 to M13: the bytes behind the entries and in the regions. The arena is the list of its bytes.
 use Rattle.std.specs.Prelude.{ℕ, ◌+◌, ◌/◌, ◌%◌, cond, List, ◌++◌, ◌≡◌, eqb, get_or, set, length, take, drop}
+use Rattle.std.specs.Prelude as code
 use Rattle.std.proofs.Math.Option.{Option, some, none}
 use Rattle.memory.specs.declared.Memory.{Memory}
 use Rattle.memory_bytes.specs.declared.bytes.Span.{Span}
@@ -18,6 +19,11 @@ pub record Backed (m : Memory) (arena : List ℕ) : Type 0 where
   pub long : length arena ≡ arena_len m.layout
 
 -- ---- places: the arena byte that an access reads or stores into, where there is one
+
+-- a place as the code has it
+abbrev pub place : code.Option ℕ → Option ℕ
+place code.None = none
+place (code.Some i) = some i
 
 -- R8: the entry of a CPU address
 abbrev pub prg_entry : Memory → ℕ → Page

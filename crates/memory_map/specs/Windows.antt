@@ -1,5 +1,5 @@
 -- M1, M2, M5: the mapping of a window, and the flag of its entries.
-use Rattle.std.specs.Prelude.{ℕ, zero, suc, ◌+◌, ◌-◌, ◌*◌, ◌/◌, ◌%◌, ◌^◌, max, ◌≤◌, ◌<◌, Bool, cond, List, eqb, ℤ, pos, negsuc, set, get_or}
+use Rattle.std.specs.Prelude.{ℕ, zero, suc, ◌+◌, ◌-◌, ◌*◌, ◌/◌, ◌%◌, ◌^◌, max, ◌≤◌, ◌<◌, ◌≡◌, Bool, cond, List, eqb, ℤ, pos, negsuc, set, get_or}
 use Rattle.memory.specs.declared.Memory.{Memory}
 use Rattle.memory.specs.declared.layout.Region.{Region}
 use Rattle.memory.specs.declared.layout.Src.{Src}
@@ -54,6 +54,10 @@ each_page k f slot (suc n) l =
     let before = each_page k f slot n l in
     let at = (slot + n) % k in
     set before at (f n (get_or before at unmapped))
+
+-- a step's answers are those of f, at each of n entries
+abbrev pub StepIs : (ℕ → Page → Page → Type 0) → (ℕ → Page → Page) → ℕ → Type 0
+StepIs answers f n = (i : ℕ) (old new : Page) → i < n → answers i old new → new ≡ f i old
 
 -- a window is one page to the whole CPU space long
 pub record WindowSize (s : ℕ) : Type 0 where

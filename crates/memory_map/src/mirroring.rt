@@ -1,8 +1,9 @@
 // Nametable mirroring: which CIRAM page each nametable shows.
-ghost use Rattle.std.specs.Prelude.{◌+◌, ◌^◌, ◌≤◌, ◌<◌, ◌≡◌, length};
+ghost use Rattle.std.specs.Prelude.{◌+◌, ◌%◌, ◌^◌, ◌≤◌, ◌<◌, ◌≡◌, get_or};
 ghost use Rattle.memory.specs.Range.{Sized};
-ghost use Rattle.memory_map.specs.Mirroring.{ciram_banks, nametable_page, mirror_pages, set_mirroring};
+ghost use Rattle.memory_map.specs.Mirroring.{ciram_banks, nametable_page, set_mirroring};
 
+use crate::table::each_page;
 use memory::Memory;
 use memory::layout::{Region, Src};
 use memory::mirroring::Mirroring;
@@ -22,6 +23,7 @@ fn ciram_banks(mirroring: Mirroring) -> [usize; 4]
 }
 
 // The CIRAM page of a nametable.
+#[tactic(auto, unfolding(crate::specs::Mirroring::nametable_page))]
 fn nametable_page(ciram: Region, bank: usize) -> Page
     requires { (ciram.start + ciram.len < 2 ^ 30) × (1024 ≤ ciram.len) }
     ensures { result ≡ nametable_page ciram bank }
@@ -29,30 +31,16 @@ fn nametable_page(ciram: Region, bank: usize) -> Page
     Page::new(ciram.start + 1024 * (bank % (ciram.len / 1024)), true)
 }
 
-// All eight nametable entries, $3000 as $2000.
-fn mirror_pages(pages: [Page; 16], banks: [usize; 4], ciram: Region) -> [Page; 16]
-    requires { (ciram.start + ciram.len < 2 ^ 30) × (1024 ≤ ciram.len) }
-    ensures { (result ≡ mirror_pages banks ciram pages) × (length result ≡ 16) }
+// Points the nametables at CIRAM: all eight entries, $3000 as $2000.
+pub fn set_mirroring(m: &mut Memory, mirroring: Mirroring)
+    requires { Sized m.old }
+    ensures { (m.new ≡ set_mirroring m.old mirroring) × (Sized m.new) }
 {
-    let mut out = pages;
-    let mut i = 0;
-    while i < 8 {
-        out[8 + i] = nametable_page(ciram, banks[i % 4]);
-        i += 1;
-    }
-    out
-}
-
-// Points the nametables at CIRAM.
-pub fn set_mirroring(m: Memory, mirroring: Mirroring) -> Memory
-    requires { Sized m }
-    ensures { (result ≡ set_mirroring m mirroring) × (Sized result) }
-{
-    let layout = m.layout;
-    let ciram = layout.region(m.battery_ext_len, Src::CiRam);
-    let pages = m.chr_pages;
-    let mirrored = mirror_pages(pages, ciram_banks(mirroring), ciram);
-    let mut out = m;
-    out.chr_pages = mirrored;
-    out
+    let ciram = m.region(Src::CiRam);
+    let banks = ciram_banks(mirroring);
+    let shown = |i: usize, _: Page|
+        requires { (ciram.start + ciram.len < 2 ^ 30) × (1024 ≤ ciram.len) }
+        ensures { result ≡ nametable_page ciram (get_or banks (i % 4) 0) }
+    { nametable_page(ciram, banks[i % 4]) };
+    each_page(&mut m.chr_pages, 8, 8, shown);
 }

@@ -15,15 +15,12 @@ pub fn new_memory(sizes: MemoryLayout) -> Memory
     requires { within_limits sizes ≡ true }
     ensures { (result ≡ new_memory sizes) × (Sized result) }
 {
-    let layout = Layout::new(sizes);
-    let page = Page::UNMAPPED;
-    let prg_pages = [page; 64];
-    let chr_pages = [page; 16];
-    let memory = Memory {
-        layout: layout,
+    let mut memory = Memory {
+        layout: Layout::new(sizes),
         battery_ext_len: 0,
-        prg_pages: prg_pages,
-        chr_pages: chr_pages,
+        prg_pages: [Page::UNMAPPED; 64],
+        chr_pages: [Page::UNMAPPED; 16],
     };
-    set_mirroring(memory, Mirroring::Horizontal)
+    set_mirroring(&mut memory, Mirroring::Horizontal);
+    memory
 }

@@ -1,4 +1,4 @@
--- `map_work_ram` meets its contract.
+-- By the board.
 use Rattle.board_banking.specs.Banking.{map_work_ram}
 use Rattle.board_banking.proofs.map_work_ram.Goals as goal
 
@@ -8,7 +8,7 @@ returns-then-prg_ram_readable c = rw (
   ← c.prg_ram_readable.ensures,
   c.if-prg_ram_readable.true,
   c.set_prg_writable.ensures.0,
-  c.map_prg-mapped.ensures.0,
+  c.map_prg.ensures.0,
   c.prg_ram_writable-writable.ensures,
 )
 

@@ -1,4 +1,4 @@
--- `slot_pages` meets its contract: one window, and for a nametable its second.
+-- One window, and for a nametable its second.
 use native.Mathlib.Omega.{arith}
 use mir.Syntax.{w32}
 use mir.Facts.{to_z_pos}
@@ -8,23 +8,13 @@ use Rattle.board_banking.proofs.slot_pages.Goals as goal
 
 pub returns-then-slot-lt8 : goal.returns-then-slot-lt8
 unfolding slot_pages
-returns-then-slot-lt8 c = (
-  rw (
-    lt-ltb _ _ c.if-slot-lt8.true,
-    c.mapped_chr_pages-low.ensures.0,
-    to_z_pos w32 {n = c.args.bank} (omega arith),
-  ),
-  c.mapped_chr_pages-low.ensures.1,
-)
+returns-then-slot-lt8 c = rw (lt-ltb _ _ c.if-slot-lt8.true, c.map_pages.ensures, to_z_pos w32 {n = c.args.bank} (omega arith))
 
 pub returns : goal.returns
 unfolding slot_pages
-returns c = (
-  rw (
-    le-ltb _ _ c.if-slot-lt8.false,
-    c.mapped_chr_pages.ensures.0,
-    c.mapped_chr_pages-low.ensures.0,
-    to_z_pos w32 {n = c.args.bank} (omega arith),
-  ),
-  c.mapped_chr_pages.ensures.1,
+returns c = rw (
+  le-ltb _ _ c.if-slot-lt8.false,
+  c.map_pages-2.ensures,
+  c.map_pages.ensures,
+  to_z_pos w32 {n = c.args.bank} (omega arith),
 )

@@ -4,6 +4,3 @@ use Rattle.directory_touched.proofs.shown_mask.Given as goal
 
 abbrev pub invariant-loop-i : goal.invariant-loop-i
 invariant-loop-i l = MaskFrom l.pages l.byte l.i l.mask
-
-abbrev pub decreases-loop-i : goal.decreases-loop-i
-decreases-loop-i l = l.i

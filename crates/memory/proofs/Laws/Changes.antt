@@ -6,6 +6,8 @@ use mathlib.Core.Bool.{Bool, true, false, cond, not}
 use mathlib.Core.List.{List, [], ◌∷◌}
 use native.Mathlib.Omega.{arith}
 use native.Mathlib.Nat.{pow-suc, mul_comm, div-div-eq-div-mul, lt_of_lt_of_le}
+use Rattle.std.proofs.Math.Nat.{min-zero, zero-min}
+use Rattle.std.specs.Prelude.{min}
 use native.Mathlib.Numerals.{sub-one}
 use borrow.Author.Tests.{eqb-true, eqb-false}
 use lib.Dec.{eqb}
@@ -13,6 +15,7 @@ use lib.ListN.{length, get_or, drop, length-drop, drop_of_length-le}
 use lib.Seq.{drop-cons}
 use lib.Pow.{pow_mono, pow_pos}
 use lib.Count.{ones, ones-ones, ones_cat, count_trailing_zeros, trailing_of_zero, under}
+use mir.Val.{bool_byte}
 use Rattle.memory.specs.declared.page.Page.{Page}
 use Rattle.memory.specs.Changes.{same, differ, changed, count_changed, lowest_changed}
 use Rattle.memory.specs.Page.{has_bit, unmapped}
@@ -67,6 +70,18 @@ mask-room zero m some = absurd (omega arith)
 mask-room (suc k) {old} {new} {i} m some =
     rw (pow-suc, m.made) (omega (arith, changed-below old new i k (omega arith)))
 
+-- and so into 64
+pub mask-fits : {k : ℕ} {old new : List Page} {i mask : ℕ} → MaskFrom k old new i mask → k ≤ 64 → 0 < i → mask * 2 + 1 < 2 ^ 64
+mask-fits {k} m h some = lt_of_lt_of_le (mask-room k m some) (pow_mono h)
+
+-- the bit that the test of two entries makes
+pub differ-bit : (a b : Page) → bool_byte (not (same a b)) ≡ differ a b
+differ-bit a b = go (same a b)
+  where
+    go : (t : Bool) → bool_byte (not t) ≡ cond t 0 1
+    go true = refl
+    go false = refl
+
 pub mask_next : {k : ℕ} {old new : List Page} {i mask : ℕ} → MaskFrom k old new i mask → 0 < i
     → MaskFrom k old new (i - 1) (mask * 2 + differ (get_or old (i - 1) unmapped) (get_or new (i - 1) unmapped))
 mask_next {k} {old} {new} {i} m some =
@@ -113,9 +128,25 @@ lowest-changed (a ∷ old) (b ∷ new) =
     go true = refl
     go false = refl
 
--- the same of a table whose length is known
-pub lowest-changed-of : (n : ℕ) (old new : List Page) → length old ≡ n → count_trailing_zeros n (changed old new) ≡ lowest_changed old new
-lowest-changed-of n old new e = rw e at (lowest-changed old new)
+-- a number below 2 ^ k has its lowest digit among its first k, or no digit
+trailing-narrow : (k w n : ℕ) → k ≤ w → n < 2 ^ k → min (count_trailing_zeros w n) k ≡ count_trailing_zeros k n
+unfolding count_trailing_zeros
+trailing-narrow zero w n h b = min-zero (count_trailing_zeros w n)
+trailing-narrow (suc k) zero n h b = absurd (omega arith)
+trailing-narrow (suc k) (suc w) n h b =
+    let half : n / 2 < 2 ^ k = omega (arith, rw pow-suc at b) in
+    go (n % 2) (trailing-narrow k w (n / 2) (omega arith) half)
+  where
+    go : (d : ℕ) → min (count_trailing_zeros w (n / 2)) k ≡ count_trailing_zeros k (n / 2)
+        → min (under d (count_trailing_zeros w (n / 2))) (suc k) ≡ under d (count_trailing_zeros k (n / 2))
+    go zero e = omega (arith, e)
+    go (suc d) e = zero-min (suc k)
+
+-- the same of a table of k entries, by the count of 64 digits
+pub lowest-changed-of : (k : ℕ) (old new : List Page) → length old ≡ k → k ≤ 64
+    → min (count_trailing_zeros 64 (changed old new)) k ≡ lowest_changed old new
+lowest-changed-of k old new e h =
+    trailing-narrow k 64 (changed old new) h (rw e at (changed-lt old new)) ∙ (rw e at (lowest-changed old new))
 
 -- ---- what mask, count and lowest say of two tables of one length
 

@@ -1,6 +1,6 @@
 -- R4: every region lies inside the arena, behind the zero page. Sizes within R1's limits give a good layout. Assumes nothing.
-use Prim.Native.Nat.{ℕ, ◌+◌, ◌*◌, ◌/◌, ◌≤◌}
-use mathlib.Core.Path.{◌≡◌}
+use Prim.Native.Nat.{ℕ, ◌+◌, ◌*◌, ◌/◌, ◌≤◌, ◌<◌}
+use mathlib.Core.Path.{◌≡◌, ◌∙◌}
 use mathlib.Core.Bool.{Bool, true, false}
 use borrow.Author.Tests.{leb-true, eq-eqb, ne_eqb}
 use native.Mathlib.Decide.{ℕ_discrete}
@@ -9,6 +9,7 @@ use Rattle.limits.specs.Limits.{ciram_limit, ciram_pages, arena_most}
 use Rattle.limits.proofs.Every.{first_of}
 use Rattle.memory.specs.declared.layout.Layout.{Layout}
 use Rattle.memory.specs.declared.layout.MemoryLayout.{MemoryLayout}
+use Rattle.memory.specs.declared.layout.Region.{Region}
 use Rattle.memory.specs.declared.layout.Src.{Src}
 use Rattle.memory.specs.declared.layout.Src.TheVariants.{PrgRom, PrgRam, BatteryExt, Chr, CiRam}
 use Rattle.memory.specs.Layout.{within_limits, WithinLimits, pages_for, ciram_bytes, layout_of}
@@ -45,14 +46,40 @@ region-ends l s = go l.chr_writable s
 pub pages-le : (l : Layout) → GoodLayout l → arena_pages l ≤ arena_most / 1024
 pages-le l g = omega (arith, arena-pages l)
 
--- CHR stands before CIRAM in both orders
-pub first-ciram : (l : Layout) → first_page l CiRam ≡ 1 + l.prg_rom + l.prg_ram + l.battery_ext + l.chr
+-- where each region begins, by whether CHR is RAM
+abbrev pub place : Layout → Bool → Src → ℕ
+place l ram PrgRom = 1
+place l true PrgRam = 1 + l.prg_rom
+place l false PrgRam = 1 + l.prg_rom + l.chr
+place l true BatteryExt = 1 + l.prg_rom + l.prg_ram
+place l false BatteryExt = 1 + l.prg_rom + l.chr + l.prg_ram
+place l true Chr = 1 + l.prg_rom + l.prg_ram + l.battery_ext
+place l false Chr = 1 + l.prg_rom
+place l ram CiRam = 1 + l.prg_rom + l.prg_ram + l.battery_ext + l.chr
+
+-- the definition's first page is there
+place-first : (l : Layout) (s : Src) → place l l.chr_writable s ≡ first_page l s
 unfolding first_page pages_before arena_order
-first-ciram l = go l.chr_writable
+place-first l s = go l.chr_writable s
   where
-    go : (ram : Bool) → 1 + pages_before l CiRam (arena_order ram) ≡ 1 + l.prg_rom + l.prg_ram + l.battery_ext + l.chr
-    go true = omega arith
-    go false = omega arith
+    go : (ram : Bool) (t : Src) → place l ram t ≡ 1 + pages_before l t (arena_order ram)
+    go true PrgRom = omega arith
+    go true PrgRam = omega arith
+    go true BatteryExt = omega arith
+    go true Chr = omega arith
+    go true CiRam = omega arith
+    go false PrgRom = omega arith
+    go false PrgRam = omega arith
+    go false BatteryExt = omega arith
+    go false Chr = omega arith
+    go false CiRam = omega arith
+
+-- and inside the largest arena
+pub first-at : (l : Layout) (ram : Bool) (s t : Src) (n : ℕ) → GoodLayout l → l.chr_writable ≡ ram → s ≡ t → n ≡ place l ram t
+    → (n ≡ first_page l s) × (n < 1024)
+first-at l ram s t n g w e p =
+    let q : n ≡ first_page l s = (rw (← w, ← e) at p) ∙ place-first l s in
+    (q, omega (arith, q, region-ends l s, pages-le l g))
 
 -- the regions' bytes lie in the arena
 pub region-in : (l : Layout) (used : ℕ) (s : Src) → used ≤ 1024 * l.battery_ext
@@ -69,6 +96,11 @@ pub region-le : (l : Layout) (used : ℕ) (s : Src) → GoodLayout l → used �
     → (region_of l used s).start + (region_of l used s).len ≤ arena_most
 unfolding arena_len
 region-le l used s g h = omega (arith, region-in l used s h, pages-le l g)
+
+-- the definition's region, so one inside the largest arena
+pub bounded : (l : Layout) (used : ℕ) (s : Src) (r : Region) → GoodLayout l → used ≤ 1024 * l.battery_ext → r ≡ region_of l used s
+    → (r ≡ region_of l used s) × (r.start + r.len ≤ arena_most)
+bounded l used s r g h e = (e, rw e (region-le l used s g h))
 
 -- ---- the limits
 

@@ -16,7 +16,9 @@ use Rattle.memory.specs.declared.layout.Src.{Src}
 use Rattle.memory.proofs.Laws.Layout.{region-in}
 use Rattle.memory.specs.declared.Memory.{Memory}
 use Rattle.memory.specs.declared.page.Page.{Page}
-use Rattle.memory_bytes.specs.Bytes.{Backed, shown_at, stored_at, wrapped_at, fetch, store, overlay}
+use Rattle.std.specs.Prelude as code
+use Rattle.std.specs.Prelude.{IfSome}
+use Rattle.memory_bytes.specs.Bytes.{Backed, prg_entry, chr_entry, place, shown_at, stored_at, wrapped_at, fetch, store, overlay}
 use Rattle.memory.specs.Layout.{arena_len, arena_pages}
 use Rattle.memory.specs.Memory.{region_in}
 use Rattle.memory.specs.Range.{EntryIn}
@@ -45,13 +47,6 @@ wrapped-in start len offset n ne h = let p : 0 < len = omega (arith, ne) in omeg
 pub region-backed : (m : Memory) (arena : List ℕ) → Backed m arena → (s : Src)
     → (region_in m s).start + (region_in m s).len ≤ length arena
 region-backed m arena b s = rw b.long (region-in m.layout m.battery_ext_len s b.ranged.sized.used)
-
--- a part of the arena that was lent comes back in its place
-pub overlay-back : (arena bytes : List ℕ) (at : ℕ)
-    → take at arena ++ (bytes ++ drop (at + length bytes - at) (drop at arena)) ≡ overlay arena at bytes
-overlay-back arena bytes at =
-    let e : at + length bytes - at ≡ length bytes = omega arith in
-    rw (e, drop-drop (length bytes) at arena, append_assoc)
 
 -- ---- a store
 
@@ -91,7 +86,37 @@ wrapped-region r offset i = by (ℕ_discrete r.len 0)
         let at : r.start + offset % r.len ≡ i = cc in
         (omega arith, omega (arith, wrapped-in r.start r.len offset (r.start + r.len) ne (omega arith)))
 
+-- ---- the places of a memory's accesses lie in its arena
+
+pub prg-stored : (m : Memory) (arena : List ℕ) (addr : ℕ) → Backed m arena → addr < 65536 → (i : ℕ)
+    → stored_at (prg_entry m addr) addr ≡ some i → i < length arena
+unfolding arena_len
+prg-stored m arena addr b h i e =
+    rw b.long (stored-page (arena_pages m.layout) (prg_entry m addr) addr i (b.ranged.prg (addr / 1024) (omega arith)) e).1
+
+pub chr-stored : (m : Memory) (arena : List ℕ) (addr : ℕ) → Backed m arena → (i : ℕ)
+    → stored_at (chr_entry m addr) addr ≡ some i → i < length arena
+unfolding arena_len
+chr-stored m arena addr b i e =
+    rw b.long (stored-page (arena_pages m.layout) (chr_entry m addr) addr i (b.ranged.chr (addr / 1024 % 16) (omega arith)) e).1
+
+pub region-stored : (m : Memory) (arena : List ℕ) (s : Src) (offset : ℕ) → Backed m arena → (i : ℕ)
+    → wrapped_at (region_in m s) offset ≡ some i → i < length arena
+region-stored m arena s offset b i e = omega (arith, wrapped-region (region_in m s) offset i e, region-backed m arena b s)
+
+-- so the code's place, where there is one, is an index of it
+pub placed : (at : code.Option ℕ) (o : Option ℕ) (n : ℕ) → place at ≡ o → ((i : ℕ) → o ≡ some i → i < n) → IfSome at (λ i. i < n)
+placed code.None o n e h = tt
+placed (code.Some i) o n e h = h i (sym e)
+
 -- ---- bytes laid over the arena
+
+-- a part of the arena that was lent comes back in its place
+pub overlay-back : (arena bytes : List ℕ) (at : ℕ)
+    → take at arena ++ (bytes ++ drop (at + length bytes - at) (drop at arena)) ≡ overlay arena at bytes
+overlay-back arena bytes at =
+    let e : at + length bytes - at ≡ length bytes = omega arith in
+    rw (e, drop-drop (length bytes) at arena, append_assoc)
 
 pub overlay-length : (arena : List ℕ) (at : ℕ) (bytes : List ℕ) → at + length bytes ≤ length arena → length (overlay arena at bytes)
     ≡ length arena

@@ -1,17 +1,16 @@
--- What a loop over a window has made of a table so far, how a signed number counts banks, and that a bank begins inside its region.
+-- What a loop over a table has made of it so far, how a signed number counts banks, and that a bank begins inside its region.
 -- Assumes nothing.
-use Prim.Native.Nat.{ℕ, zero, suc, ◌+◌, ◌-◌, ◌*◌, ◌/◌, ◌%◌, ◌≤◌, ◌<◌}
-use mathlib.Core.Path.{◌≡◌, refl, ap}
-use mathlib.Core.Bool.{true, false}
+use Prim.Native.Nat.{ℕ, zero, suc, ◌+◌, ◌*◌, ◌/◌, ◌%◌, ◌^◌, ◌≤◌, ◌<◌}
+use mathlib.Core.Path.{◌≡◌, refl}
 use mathlib.Core.List.{List}
 use native.Mathlib.Omega.{arith}
 use native.Mathlib.Numerals.{add-one}
 use native.Mathlib.Nat.{suc-mul, div-add-mod', mod-lt, le_trans, mul-le-mul_right, div-mul-le_self}
-use borrow.Author.Tests.{ltb-true, le-ltb}
-use lib.Dec.{T}
-use lib.IntN.{ℤ, pos, negsuc, nat_abs, ◌-ℤ◌}
+use lib.IntN.{ℤ, pos, negsuc}
 use lib.ListN.{length, length-set, get_or, set}
-use lib.Signed.{lt_z, mag, non_neg}
+use Rattle.std.specs.Int.{int_rem_euclid}
+use Rattle.std.proofs.Math.Nat.{div-le_self}
+use Rattle.limits.specs.Limits.{arena_most}
 use Rattle.memory.specs.declared.page.Page.{Page}
 use Rattle.memory.specs.Page.{unmapped}
 use Rattle.memory_map.specs.Windows.{banks_of, modulo, window_base, each_page}
@@ -41,10 +40,6 @@ unfolding each_page
 turned-next t more =
     record { within = omega arith; long = simp (length-set, t.long); made = rw (add-one, t.made) }
 
-pub turned-all : {k : ℕ} {f : ℕ → Page → Page} {slot count : ℕ} {start : List Page} {i : ℕ} {pages : List Page}
-    → Turned k f slot count start i pages → count ≤ i → (pages ≡ each_page k f slot count start) × (length pages ≡ k)
-turned-all {count = count} {i = i} t end = let e : i ≡ count = omega arith in (rw e at t.made, t.long)
-
 -- ---- banks
 
 pub banks-pos : (len s : ℕ) → 0 < banks_of len s
@@ -59,26 +54,15 @@ modulo-lt (negsuc k) n h = omega arith
 pub modulo-whole : (k n : ℕ) → 0 < n → suc k + modulo (negsuc k) n ≡ suc (k / n) * n
 modulo-whole k n h = rw suc-mul (omega (arith, mod-lt k h, div-add-mod' k n))
 
--- a number below 0 is `mag` below −1
-pub below_one : (b : ℤ) → lt_z b (pos 0) ≡ true → negsuc 0 -ℤ b ≡ pos (mag b)
-below_one (pos k) t = absurd (omega (arith, ltb-true k 0 t))
-below_one (negsuc k) t = rw (le-ltb (suc k) 1 (omega arith)) (ap pos (omega arith))
+-- the machine's remainder is that of the definition
+pub rem-modulo : (b : ℤ) (n : ℕ) → int_rem_euclid b (pos n) ≡ pos (modulo b n)
+rem-modulo (pos k) n = refl
+rem-modulo (negsuc k) n = refl
 
-pub modulo-below : (b : ℤ) (n : ℕ) → lt_z b (pos 0) ≡ true → modulo b n ≡ n - 1 - mag b % n
-modulo-below (pos k) n t = absurd (omega (arith, ltb-true k 0 t))
-modulo-below (negsuc k) n t = refl
-
-pub not-below : (b : ℤ) → lt_z b (pos 0) ≡ false → T (non_neg b)
-not-below (pos k) t = tt
-not-below (negsuc k) t = let z : ◌≡◌ {A = ℕ} 0 1 = cc in absurd (omega arith)
-
-pub modulo-above : (b : ℤ) (n : ℕ) → lt_z b (pos 0) ≡ false → nat_abs b % n ≡ modulo b n
-modulo-above (pos k) n t = refl
-modulo-above (negsuc k) n t = let z : ◌≡◌ {A = ℕ} 0 1 = cc in absurd (omega arith)
-
--- what a remainder leaves below the last
-pub mod_below : (k n : ℕ) → 0 < n → k % n ≤ n - 1
-mod_below k n h = omega (arith, mod-lt k h)
+-- a region has few banks
+pub banks-small : (len s : ℕ) → len ≤ arena_most → banks_of len s < 2 ^ 31
+unfolding banks_of
+banks-small len s h = omega (arith, div-le_self len s)
 
 -- a bank begins in its region: b is at most banks − 1, and banks − 1 at most len / s
 pub base-le : (len s : ℕ) (b : ℤ) → window_base len s b ≤ len

@@ -18,6 +18,6 @@ returns c = rw (
   c.if-not-layout_ok.false,
   ← c.used_ok.ensures,
   ← c.arena_len-bytes.ensures.0,
-  ← c.prg_ok.ensures,
-  ← c.chr_ok.ensures,
+  ← c.table_ok.ensures,
+  ← c.table_ok-2.ensures,
 )

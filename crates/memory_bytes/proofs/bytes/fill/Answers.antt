@@ -5,9 +5,9 @@ use Rattle.memory_bytes.specs.Bytes.{fill_region}
 use Rattle.memory_bytes.proofs.bytes.fill.Goals as goal
 
 pub overlay-requires : goal.overlay-requires
-overlay-requires c = rw c.region-region.ensures.0
+overlay-requires c = rw c.region.ensures.0
     (omega (arith, c.requires.1, region-backed c.args.m c.args.arena.now c.requires.0 c.args.src))
 
 pub returns : goal.returns
 unfolding fill_region
-returns c = rw (c.overlay.ensures, c.region-region.ensures.0)
+returns c = rw (c.overlay.ensures, c.region.ensures.0)

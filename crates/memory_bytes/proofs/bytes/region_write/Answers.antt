@@ -1,9 +1,14 @@
 -- The region lies in the arena.
-use Rattle.memory_bytes.proofs.Laws.Bytes.{region-backed}
+use mathlib.Core.Path.{ap, ◌∙◌}
+use Rattle.memory.specs.declared.layout.Region.{Region}
+use Rattle.memory_bytes.specs.Bytes.{wrapped_at}
+use Rattle.memory_bytes.proofs.Laws.Bytes.{placed, region-stored}
 use Rattle.memory_bytes.proofs.bytes.region_write.Goals as goal
 
-pub set_region_byte-requires : goal.set_region_byte-requires
-set_region_byte-requires c = rw c.region-region.ensures.0 (region-backed c.args.m c.args.arena.now c.requires c.args.src)
+pub store-requires : goal.store-requires
+store-requires c =
+    placed _ _ _ (c.wrapped_at.ensures ∙ ap (λ (r : Region). wrapped_at r c.args.offset) c.region.ensures.0)
+    (region-stored c.args.m c.args.arena.now c.args.src c.args.offset c.requires)
 
 pub returns : goal.returns
-returns c = rw (c.set_region_byte.ensures, c.region-region.ensures.0)
+returns c = rw (c.store.ensures, c.wrapped_at.ensures, c.region.ensures.0)

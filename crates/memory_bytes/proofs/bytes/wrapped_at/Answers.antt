@@ -1,11 +1,12 @@
--- A remainder is below its divisor.
-use native.Mathlib.Omega.{arith}
-use native.Mathlib.Nat.{mod-lt}
-use mathlib.Core.Path.{refl}
+-- By the test whether the region is empty.
+use borrow.Author.Tests.{eq-eqb, ne_eqb}
+use Rattle.memory_bytes.specs.Bytes.{wrapped_at}
 use Rattle.memory_bytes.proofs.bytes.wrapped_at.Goals as goal
 
-pub overflow_add-result : goal.overflow_add-result
-overflow_add-result c = record { fits = omega (arith, mod-lt c.args.offset c.requires.0) }
+pub returns-then-region-eq0 : goal.returns-then-region-eq0
+unfolding wrapped_at
+returns-then-region-eq0 c = rw (eq-eqb _ _ c.if-region-eq0.true)
 
 pub returns : goal.returns
-returns c = (refl, omega (arith, mod-lt c.args.offset c.requires.0))
+unfolding wrapped_at
+returns c = rw (ne_eqb _ _ c.if-region-eq0.false)

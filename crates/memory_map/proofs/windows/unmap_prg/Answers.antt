@@ -1,10 +1,13 @@
--- The table is the callee's.
-use Rattle.memory_map.specs.Windows.{unmap_prg}
+-- Each entry of the window.
+use borrow.Author.Rules.{rules}
+use Prim.Native.Nat.{ℕ}
+use Rattle.memory.specs.declared.page.Page.{Page}
+use Rattle.memory.specs.Page.{unmapped}
+use Rattle.memory_map.specs.Windows.{unmap_pages, unmap_prg}
 use Rattle.memory_map.proofs.windows.unmap_prg.Goals as goal
 
 pub returns : goal.returns
-unfolding unmap_prg
-returns c = (
-  rw c.unmap_pages-unmapped.ensures.0,
-  record { layout = c.requires.0.layout; used = c.requires.0.used },
-)
+unfolding unmap_prg unmap_pages
+returns c =
+    let step : ℕ → Page → Page = λ i old. unmapped in
+    (rw (c.each_page.ensures step (λ i old new h e. search rules)), record { layout = c.requires.0.layout; used = c.requires.0.used })
