@@ -6,7 +6,7 @@ use Rattle.memory.specs.Memory.{region_in}
 use Rattle.sound.specs.Audio.{with_ram}
 use Rattle.board_chip.specs.Namco163.{with_audio}
 use Rattle.board_state.specs.declared.State.{State}
-use Rattle.call_answers.specs.declared.Altered.{Altered}
+use Rattle.call_answers.specs.Answers.{Altered}
 use Rattle.call_refusals.specs.Refusals.{unless_refused, unless_kept, battery_checks}
 use Rattle.board_state.specs.State.{with_chip}
 

@@ -18,10 +18,8 @@ use Rattle.board_state.specs.None.{no_state}
 use Rattle.board_state.specs.State.{in_range}
 use Rattle.call_refusals.specs.Refusals.{Check, first_of, unless_refused, unless_kept, cpu_checks, load_checks}
 use Rattle.call_refusals.proofs.Laws.{refused-is, accepted-is, number_is}
-use Rattle.call_cpu.specs.declared.calls.Written.{Written}
-use Rattle.call_cpu.specs.Calls.{refused_write, cpu_write, cpu_write_arena}
-use Rattle.call_load.specs.declared.Loaded.{Loaded}
-use Rattle.call_load.specs.Cartridge.{load_answer, load_arena}
+use Rattle.call_cpu.specs.Calls.{WriteAnswer, refused_write, cpu_write, cpu_write_arena}
+use Rattle.call_load.specs.Cartridge.{Loaded, load_answer, load_arena}
 use Rattle.directory.specs.Block.{fits, free, holds}
 use Rattle.directory.specs.Fit.{any, fit}
 use Rattle.directory.specs.Calls.{register_refusal}
@@ -58,13 +56,6 @@ module _ {A : Type 0} (d : List ℕ) (cs : List Check) (r : ℕ → A) (a : A) w
 pub given-fit : {A : Type 0} (d : List ℕ) (r : ℕ → A) (a : A) → fit d ≡ true → unless_refused (with_directory d []) r a ≡ a
 unfolding first_of
 given-fit d r a e = given-accepted d [] r a e refl
-
--- the test of the directory, by what it answered
-pub unfit-here : (d : List ℕ) {r : Bool} → r ≡ fit d → not r ≡ true → fit d ≡ false
-unfit-here d {r} e h = sym e ∙ not-true r h
-
-pub fit-here : (d : List ℕ) {r : Bool} → r ≡ fit d → not r ≡ false → fit d ≡ true
-fit-here d {r} e h = sym e ∙ not-false r h
 
 -- ---- what a call answers, and what it leaves of the arena and of the places: `own` are its own checks, `after` the arena that the call
 -- without a directory leaves, and `drop` the places without the blocks that go; `call` is what that call answered and left
@@ -115,7 +106,7 @@ register-number d start len =
 
 -- ---- CPU write
 
-abbrev refusal : Written → ℕ
+abbrev refusal : WriteAnswer → ℕ
 refusal w = w.refusal
 
 -- the number that it answers is its checks'

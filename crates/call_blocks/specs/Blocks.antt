@@ -11,12 +11,9 @@ use Rattle.board_state.specs.declared.State.{State}
 use Rattle.board_state.specs.None.{no_state}
 use Rattle.call_refusals.specs.Refusals.{Check, unless_refused, unless_kept}
 use Rattle.call_refusals.specs.Refusals.{address_check, arena_checks, cpu_checks, fill_checks, battery_checks, load_checks}
-use Rattle.call_load.specs.declared.Loaded.{Loaded}
-use Rattle.call_load.specs.Cartridge.{load_answer, load_arena}
-use Rattle.call_cpu.specs.declared.calls.Written.{Written}
-use Rattle.call_cpu.specs.Calls.{write_register, refused_write, cpu_write, cpu_write_arena}
-use Rattle.call_preview.specs.declared.Previewed.{Previewed}
-use Rattle.call_preview.specs.Preview.{answer_of, preview}
+use Rattle.call_load.specs.Cartridge.{Loaded, load_answer, load_arena}
+use Rattle.call_cpu.specs.Calls.{WriteAnswer, write_register, refused_write, cpu_write, cpu_write_arena}
+use Rattle.call_preview.specs.Preview.{Previewed, answer_of, preview}
 use Rattle.call_regions.specs.Regions.{chr_write_arena, fill_arena, region_write_arena}
 use Rattle.call_battery.specs.Battery.{sync_arena}
 use Rattle.directory.specs.Block.{fits, free, holds}
@@ -56,7 +53,7 @@ unfoldable pub cpu_touched : State → ℕ → ℕ → ℕ
 cpu_touched s addr v =
     touched s.memory.prg_pages (write_register s addr v).memory.prg_pages (stored_at (prg_entry s.memory addr) addr)
 
-unfoldable pub cpu_write_answer : List ℕ → State → List ℕ → ℕ → ℕ → Written
+unfoldable pub cpu_write_answer : List ℕ → State → List ℕ → ℕ → ℕ → WriteAnswer
 cpu_write_answer d s arena addr v = unless_refused (with_directory d []) (refused_write s) (cpu_write s arena addr v)
 
 unfoldable pub cpu_write_leaves : List ℕ → State → List ℕ → ℕ → ℕ → List ℕ

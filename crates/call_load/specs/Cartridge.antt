@@ -1,5 +1,5 @@
 -- Load, L1 to L5: a new memory, and then the registers at load; no reset.
-use Rattle.std.specs.Prelude.{ℕ, ◌≤◌, ◌≡◌, Bool, true, cond, List, eqb, length, replicate}
+use Rattle.std.specs.Prelude.{ℕ, ◌≤◌, ◌≡◌, Bool, true, cond, List, Result, eqb, length, replicate}
 use Rattle.memory.specs.declared.Memory.{Memory}
 use Rattle.memory.specs.declared.layout.MemoryLayout.{MemoryLayout}
 use Rattle.memory.specs.Layout.{within_limits}
@@ -9,7 +9,8 @@ use Rattle.board_protection.specs.Protection.{remap_banks}
 use Rattle.board_state.specs.declared.Options.{Options}
 use Rattle.board_state.specs.declared.State.{State}
 use Rattle.board_state.specs.None.{no_state}
-use Rattle.call_load.specs.declared.Loaded.{Loaded}
+use Rattle.refusals.specs.declared.Refusal.{Refusal}
+use Rattle.refusals.specs.Refusal.{answered}
 use Rattle.call_refusals.specs.Refusals.{unless_refused, unless_kept, load_checks}
 
 -- R8: the memory with another used battery length
@@ -26,6 +27,14 @@ fresh_state mapper sub flags known sizes options =
     let chip = chip_at_load mapper sub flags known in
     let protects = options.f800_protects in
     record { chip = chip; memory = remap_banks protects chip (memory_at_load mapper sizes); f800_protects = protects }
+
+-- N21: a load's answer, and by what the function gives. Where it is refused, the state is one that no call accepts.
+pub record Loaded : Type 0 where
+  pub refusal : ℕ
+  pub state : State
+
+abbrev pub loaded : Result State Refusal → Loaded
+loaded = answered (λ q. record { refusal = q; state = no_state }) (λ s. record { refusal = 0; state = s })
 
 -- N4 to N7 and N21, or the fresh state
 unfoldable pub load_answer : ℕ → ℕ → ℕ → Bool → MemoryLayout → Options → ℕ → Loaded

@@ -19,7 +19,12 @@ use Rattle.memory_bytes.specs.Bytes.{Backed}
 use Rattle.board_state.specs.declared.State.{State}
 use Rattle.board_state.specs.State.{in_range}
 use Rattle.board_state.proofs.Range.{memory-good}
-use Rattle.call_refusals.specs.Refusals.{Check, first_of, unless_refused, state_checks, arena_checks, cpu_checks, fill_checks}
+use Rattle.refusals.specs.declared.Refusal.{Refusal}
+use Rattle.refusals.specs.declared.Refusal.TheVariants as Because
+use Rattle.refusals.specs.Refusal.{number_of}
+use Rattle.refusals.proofs.Numbers.{numbered}
+use Rattle.call_refusals.specs.declared.known.KnownState.{KnownState}
+use Rattle.call_refusals.specs.Refusals.{Check, first_of, unless_refused, state_check, state_checks, arena_checks, cpu_checks, fill_checks}
 use Rattle.call_refusals.specs.Refusals.{battery_checks}
 
 -- ---- any list of checks
@@ -89,24 +94,34 @@ module _ {A : Type 0} (cs : List Check) (r : ℕ → A) (a : A) where
       go true e = ea ∙ sym (eqb-true (first_of cs) 0 e)
       go false e = er (first_of cs)
 
--- ---- the arena's checks and one more behind them, as the code makes them: q is the number that the arena's checks gave
+-- the state's check comes first
+pub unknown : (s : State) (cs : List Check) (e : Refusal) → (e ≡ Because.State) × (in_range s ≡ false)
+    → number_of e ≡ first_of (state_check s ∷ cs)
+unfolding first_of
+unknown s cs e h = rw (h.0, h.1)
+
+-- a state that passed it
+pub known-range : {s : State} (k : KnownState) → k.state ≡ s → in_range s ≡ true
+known-range k e = rw (← e) k.in_range
+
+-- ---- the arena's checks and one more behind them, as the code makes them
 
 none-of-arena : (s : State) (len : ℕ) → first_of (arena_checks s len) ≡ 0 → NoneHolds (arena_checks s len)
 none-of-arena s len e = accepted-none (arena_checks s len) (search rules) e
 
-module _ (s : State) (len q : ℕ) (last : Check) (e : q ≡ first_of (arena_checks s len)) where
-  -- q refuses
-  pub arena-refuses : (q ≡ 0 → ⊥) → q ≡ first_of (arena_checks s len ++ last ∷ [])
-  arena-refuses h = e ∙ sym (first_done (arena_checks s len) (last ∷ []) (λ z. h (e ∙ z)))
+module _ (s : State) (len : ℕ) (last : Check) where
+  -- one of the arena's refuses
+  pub arena-refuses : (r : Refusal) → number_of r ≡ first_of (arena_checks s len) → number_of r ≡ first_of (arena_checks s len ++ last ∷ [])
+  arena-refuses r e = e ∙ sym (first_done (arena_checks s len) (last ∷ []) (λ z. numbered r (e ∙ z)))
 
-  -- q does not, and the last check refuses
-  pub last-refuses : q ≡ 0 → last.holds ≡ true → last.number ≡ first_of (arena_checks s len ++ last ∷ [])
-  last-refuses z h = sym (refused-first (arena_checks s len) [] last (none-of-arena s len (sym e ∙ z)) h)
+  -- none does, and the last check refuses
+  pub last-refuses : 0 ≡ first_of (arena_checks s len) → last.holds ≡ true → last.number ≡ first_of (arena_checks s len ++ last ∷ [])
+  last-refuses z h = sym (refused-first (arena_checks s len) [] last (none-of-arena s len (sym z)) h)
 
   -- none does
-  pub last-passes : q ≡ 0 → last.holds ≡ false → 0 ≡ first_of (arena_checks s len ++ last ∷ [])
+  pub last-passes : 0 ≡ first_of (arena_checks s len) → last.holds ≡ false → 0 ≡ first_of (arena_checks s len ++ last ∷ [])
   unfolding first_of
-  last-passes z h = rw (first_more (arena_checks s len) (last ∷ []) (none-of-arena s len (sym e ∙ z)), h)
+  last-passes z h = rw (first_more (arena_checks s len) (last ∷ []) (none-of-arena s len (sym z)), h)
 
 -- ---- what an accepted call knows
 

@@ -1,107 +1,76 @@
-// The refusal number of each kind of call, 0 for accepted: N0, N20.
+// The checks of each kind of call: N0, N20.
 #![tactic(auto)]
 
-ghost use Rattle.std.specs.Prelude.{◌≡◌, true, ◌&&◌, eqb};
-ghost use Rattle.board_state.specs.State.{in_range};
-ghost use Rattle.call_refusals.specs.Refusals.{first_of, state_checks, reset_checks, arena_checks, cpu_checks, fill_checks, battery_checks};
-ghost use Rattle.call_refusals.specs.Refusals.{load_checks};
+pub mod known; // known.rt: a state that is in range
 
-use board_state::{State, in_range, mapper_ok};
+ghost use Rattle.std.specs.Prelude.{◌≡◌, ◌&&◌, eqb};
+ghost use Rattle.refusals.specs.Refusal.{refusal_of};
+ghost use Rattle.call_refusals.specs.Refusals.{first_of, reset_checks, arena_checks, cpu_checks, fill_checks, battery_checks, load_checks};
+
+use board_state::{State, mapper_ok};
+use known::KnownState;
 use memory::layout::{Layout, MemoryLayout, Src};
+use refusals::Refusal;
 
-pub fn state_refusal(s: State) -> u8
-    ensures { result ≡ first_of (state_checks s) }
+pub fn check_reset(s: State, kind: u64) -> Result<(), Refusal>
+    ensures { refusal_of result ≡ first_of (reset_checks s kind) }
 {
-    if in_range(s) {
-        return 0;
+    KnownState::new(s)?;
+    if 1 < kind {
+        return Err(Refusal::Kind);
     }
-    2
+    Ok(())
 }
 
-pub fn reset_refusal(s: State, kind: u64) -> u8
-    ensures { result ≡ first_of (reset_checks s kind) }
+pub fn check_arena_known(s: KnownState, len: usize) -> Result<(), Refusal>
+    ensures { refusal_of result ≡ first_of (arena_checks s.state len) }
 {
-    if in_range(s) {
-        if 1 < kind {
-            return 3;
-        }
-        return 0;
+    if len != s.state.memory.layout.arena_len() {
+        return Err(Refusal::Arena);
     }
-    2
+    Ok(())
 }
 
-// Of a state that is known to be in range, as each function `.._known`.
-pub fn arena_refusal_known(s: State, len: usize) -> u8
-    requires { in_range s ≡ true }
-    ensures { result ≡ first_of (arena_checks s len) }
+pub fn check_arena(s: State, len: usize) -> Result<(), Refusal>
+    ensures { refusal_of result ≡ first_of (arena_checks s len) }
 {
-    let m = s.memory;
-    let layout = m.layout;
-    if len == layout.arena_len() {
-        return 0;
-    }
-    7
+    check_arena_known(KnownState::new(s)?, len)
 }
 
-pub fn arena_refusal(s: State, len: usize) -> u8
-    ensures { result ≡ first_of (arena_checks s len) }
+pub fn check_cpu_known(s: KnownState, len: usize, addr: u16) -> Result<(), Refusal>
+    ensures { refusal_of result ≡ first_of (cpu_checks s.state len addr) }
 {
-    if in_range(s) {
-        return arena_refusal_known(s, len);
-    }
-    2
-}
-
-pub fn cpu_refusal_known(s: State, len: usize, addr: u16) -> u8
-    requires { in_range s ≡ true }
-    ensures { result ≡ first_of (cpu_checks s len addr) }
-{
-    let q = arena_refusal_known(s, len);
-    if q != 0 {
-        return q;
-    }
+    check_arena_known(s, len)?;
     if addr < 0x4800 {
-        return 8;
+        return Err(Refusal::Address);
     }
-    0
+    Ok(())
 }
 
-pub fn cpu_refusal(s: State, len: usize, addr: u16) -> u8
-    ensures { result ≡ first_of (cpu_checks s len addr) }
+pub fn check_cpu(s: State, len: usize, addr: u16) -> Result<(), Refusal>
+    ensures { refusal_of result ≡ first_of (cpu_checks s len addr) }
 {
-    if in_range(s) {
-        return cpu_refusal_known(s, len, addr);
-    }
-    2
+    check_cpu_known(KnownState::new(s)?, len, addr)
 }
 
-pub fn fill_refusal(s: State, len: usize, src: Src, n: usize) -> u8
-    ensures { result ≡ first_of (fill_checks s len src n) }
+pub fn check_fill(s: State, len: usize, src: Src, n: usize) -> Result<(), Refusal>
+    ensures { refusal_of result ≡ first_of (fill_checks s len src n) }
 {
-    let q = arena_refusal(s, len);
-    if q != 0 {
-        return q;
+    check_arena(s, len)?;
+    if s.memory.layout.region(s.memory.battery_ext_len, src).len < n {
+        return Err(Refusal::Fill);
     }
-    let m = s.memory;
-    let layout = m.layout;
-    let region = layout.region(m.battery_ext_len, src);
-    if region.len < n {
-        return 9;
-    }
-    0
+    Ok(())
 }
 
-pub fn battery_refusal(s: State, len: usize) -> u8
-    ensures { result ≡ first_of (battery_checks s len) }
+pub fn check_battery(s: State, len: usize) -> Result<(), Refusal>
+    ensures { refusal_of result ≡ first_of (battery_checks s len) }
 {
-    let q = arena_refusal(s, len);
-    if q != 0 {
-        return q;
-    }
+    check_arena(s, len)?;
     if s.memory.battery_ext_len == 0 {
-        return 12;
+        return Err(Refusal::Battery);
     }
-    0
+    Ok(())
 }
 
 // N6: a 163 needs a reserve for its sound RAM; one byte is enough, since a reserve is whole pages.
@@ -111,21 +80,20 @@ fn lacks_reserve(mapper: u64, reserve: u64) -> bool
     (mapper == 19) & (reserve == 0)
 }
 
-pub fn load_refusal(mapper: u64, sizes: MemoryLayout, len: usize) -> u8
-    ensures { result ≡ first_of (load_checks mapper sizes len) }
+pub fn check_load(mapper: u64, sizes: MemoryLayout, len: usize) -> Result<(), Refusal>
+    ensures { refusal_of result ≡ first_of (load_checks mapper sizes len) }
 {
-    if mapper_ok(mapper) {
-        if sizes.within_limits() {
-            if lacks_reserve(mapper, sizes.battery_ext) {
-                return 6;
-            }
-            let layout = Layout::new(sizes);
-            if len == layout.arena_len() {
-                return 0;
-            }
-            return 7;
-        }
-        return 5;
+    if !mapper_ok(mapper) {
+        return Err(Refusal::Mapper);
     }
-    4
+    if !sizes.within_limits() {
+        return Err(Refusal::Size);
+    }
+    if lacks_reserve(mapper, sizes.battery_ext) {
+        return Err(Refusal::Reserve);
+    }
+    if len != Layout::new(sizes).arena_len() {
+        return Err(Refusal::Arena);
+    }
+    Ok(())
 }

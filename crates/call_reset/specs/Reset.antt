@@ -5,7 +5,7 @@ use Rattle.board_chip.specs.declared.reset.ResetKind.TheVariants.{Soft, Hard}
 use Rattle.board_chip.specs.Reset.{reset_chip}
 use Rattle.board_state.specs.declared.State.{State}
 use Rattle.board_state.specs.State.{with_chip}
-use Rattle.call_answers.specs.declared.Altered.{Altered}
+use Rattle.call_answers.specs.Answers.{Altered}
 use Rattle.call_refusals.specs.Refusals.{unless_refused, reset_checks}
 
 -- N3: kind 0 is soft; of the accepted ones the other is hard

@@ -1,9 +1,11 @@
 -- The run, C4 to C6: n single clocks, and what it answers and alters, refused runs too.
-use Rattle.std.specs.Prelude.{ℕ, List, [], ◌∷◌, ltb, Float, length}
+use Rattle.std.specs.Prelude.{ℕ, List, [], ◌∷◌, Result, ltb, Float, length}
 use Rattle.cut.specs.Calls.{RunGave, Point, start}
 use Rattle.cut.specs.Machine.{ticks}
 use Rattle.cut.specs.Contract.{run_by}
 use Rattle.board_state.specs.declared.State.{State}
+use Rattle.refusals.specs.declared.Refusal.{Refusal}
+use Rattle.refusals.specs.Refusal.{answered}
 use Rattle.call_refusals.specs.Refusals.{Check, first_of, state_check}
 use Rattle.call_run.specs.declared.run.Ran.{Ran}
 use Rattle.call_run.specs.Clock.{state_clock}
@@ -40,6 +42,22 @@ run_checks s n room = state_check s ∷ length_check n ∷ room_check s n room �
 unfoldable pub run_gave : State → ℕ → List Float → RunGave State Float
 run_gave s n lent = run_by (first_of (run_checks s n (length lent))) (clocks n s) lent s
 
+-- C5: of what it leaves, what an accepted run gives
+abbrev pub ran_in : RunGave State Float → Ran
+ran_in g = record { made = g.made; rise = g.rise; state = g.state }
+
+-- C5, N21: a run's answer, and by what the function gives, which was called on s
+pub record RunAnswer : Type 0 where
+  pub refusal : ℕ
+  pub made : ℕ
+  pub rise : ℕ
+  pub state : State
+
+abbrev pub run_answer : State → Result Ran Refusal → RunAnswer
+run_answer s =
+    answered (λ q. record { refusal = q; made = 0; rise = 0; state = s })
+    (λ (r : Ran). record { refusal = 0; made = r.made; rise = r.rise; state = r.state })
+
 -- C5: the answer without the lent samples
-abbrev pub ran_of : RunGave State Float → Ran
+abbrev pub ran_of : RunGave State Float → RunAnswer
 ran_of g = record { refusal = g.refusal; made = g.made; rise = g.rise; state = g.state }

@@ -1,11 +1,12 @@
 -- Samples as bytes, and a run whose room is cut to what any run makes.
-use Prim.Native.Nat.{ℕ, zero, suc, ◌+◌, ◌*◌, ◌/◌, ◌%◌, ◌≤◌, ◌<◌}
+use Prim.Native.Nat.{ℕ, zero, suc, ◌+◌, ◌*◌, ◌/◌, ◌%◌, min, ◌≤◌, ◌<◌}
+use Rattle.std.proofs.Math.Nat.{min-eq_left, min-eq_right}
 use mathlib.Core.Path.{◌≡◌, refl, sym, ap, ◌∙◌}
 use mathlib.Core.Bool.{Bool, true, false, cond, not}
 use mathlib.Core.List.{List, [], ◌∷◌, ◌++◌, append_assoc}
 use native.Mathlib.Numerals.{add-one}
 use native.Mathlib.Omega.{arith}
-use borrow.Author.Tests.{le-ltb, ltb-false}
+use borrow.Author.Tests.{le-ltb, ltb-true, ltb-false}
 use lib.Dec.{T, ltb}
 use lib.Ieee.{Float, nan, binary32, to_bits, is_nan}
 use lib.ListN.{length, take, drop, get_or, length-append, length-drop, take-append-drop}
@@ -23,7 +24,7 @@ use Rattle.board_state.specs.State.{Known}
 use Rattle.board_state.proofs.Range.{known-audio}
 use Rattle.call_refusals.specs.Refusals.{first_of}
 use Rattle.call_run.specs.declared.run.Ran.{Ran}
-use Rattle.call_run.specs.Run.{clocks, made, run_limit, samples_most, run_checks, ran_of}
+use Rattle.call_run.specs.Run.{clocks, made, run_limit, samples_most, run_checks, RunAnswer, ran_of}
 use Rattle.call_run.proofs.run.Laws.{run-good, made-most, sounds-samples, silent-samples}
 use Rattle.host_samples.specs.Samples.{sample_bytes, run_in, HoldsRun}
 
@@ -74,17 +75,22 @@ put-more xs l j h r =
 -- ---- a run's room: more than a buffer that holds the run changes nothing
 
 pub room-enough : (s : State) (n room places : ℕ) → HoldsRun s n places
-    → first_of (run_checks s n (cond (ltb room places) room places)) ≡ first_of (run_checks s n room)
+    → first_of (run_checks s n (min places room)) ≡ first_of (run_checks s n room)
 unfolding first_of
 room-enough s n room places holds = go (ltb run_limit n) (ltb room places) refl refl
   where
     go : (l b : Bool) → ltb run_limit n ≡ l → ltb room places ≡ b
-        → first_of (run_checks s n (cond (ltb room places) room places)) ≡ first_of (run_checks s n room)
+        → first_of (run_checks s n (min places room)) ≡ first_of (run_checks s n room)
     go true b le be = rw le
-    go false true le be = rw be
+    go false true le be = rw (min-eq_right {n = room} {m = places} (omega (arith, ltb-true room places be)))
     go false false le be =
         let m = holds (ltb-false run_limit n le) in
-        rw (be, le, le-ltb places (made n s) m, le-ltb room (made n s) (omega (arith, m, ltb-false room places be)))
+        rw (
+          min-eq_left {n = places} {m = room} (ltb-false room places be),
+          le,
+          le-ltb places (made n s) m,
+          le-ltb room (made n s) (omega (arith, m, ltb-false room places be)),
+        )
 
 pub run-number : (q : ℕ) (t : Point State Float) (lent : List Float) (s : State) → (run_by q t lent s).refusal ≡ q
 run-number zero t lent s = refl
@@ -110,7 +116,10 @@ whole-buffer (suc q) t buf p s h = take-append-drop p buf
 -- ---- what an accepted run knows
 
 abbrev ran_to : Point State Float → Ran
-ran_to t = record { refusal = 0; made = length t.stretch.samples; rise = last_or 0 t.stretch.rises; state = t.state }
+ran_to t = record { made = length t.stretch.samples; rise = last_or 0 t.stretch.rises; state = t.state }
+
+abbrev accepted : Ran → RunAnswer
+accepted r = record { refusal = 0; made = r.made; rise = r.rise; state = r.state }
 
 -- its answer, its samples first in the buffer, and that they are few enough for a buffer that holds the run and for the host's bytes
 pub record Ended (s : State) (n : ℕ) (bytes : List ℕ) (r : Ran) (after : List Float) : Type 0 where
@@ -121,21 +130,21 @@ pub record Ended (s : State) (n : ℕ) (bytes : List ℕ) (r : Ran) (after : Lis
   pub lent : 4 * r.made ≤ length bytes
 
 pub ended : (s : State) (n : ℕ) (bytes : List ℕ) (lent : List Float) (r : Ran) (after : List Float)
-    → (r ≡ ran_of (run_in s n (length bytes / 4) lent)) × (after ≡ (run_in s n (length bytes / 4) lent).samples)
-    → Known s → r.refusal ≡ 0 → Ended s n bytes r after
+    → (accepted r ≡ ran_of (run_in s n (length bytes / 4) lent)) × (after ≡ (run_in s n (length bytes / 4) lent).samples)
+    → Known s → Ended s n bytes r after
 unfolding made
-ended s n bytes lent r after e k z =
+ended s n bytes lent r after e k =
     let q = first_of (run_checks s n (length bytes / 4)) in
     let t = clocks n s in
     let w = t.stretch.samples in
-    let accepted : q ≡ 0 = sym (ap (λ (x : Ran). x.refusal) e.0 ∙ run-number q t lent s) ∙ z in
-    let g = run-good s n (length bytes / 4) accepted in
-    let i : r ≡ ran_to t = e.0 ∙ ap (λ (x : ℕ). ran_of (run_by x t lent s)) accepted in
-    let m : r.made ≡ length w = ap (λ (x : Ran). x.made) i in
+    let z : q ≡ 0 = sym (ap (λ (x : RunAnswer). x.refusal) e.0 ∙ run-number q t lent s) in
+    let g = run-good s n (length bytes / 4) z in
+    let i : accepted r ≡ ran_of (run_by 0 t lent s) = e.0 ∙ ap (λ (x : ℕ). ran_of (run_by x t lent s)) z in
+    let m : r.made ≡ length w = ap (λ (x : RunAnswer). x.made) i in
     record {
-      is = i;
+      is = ap (λ (x : RunAnswer). record { made = x.made; rise = x.rise; state = x.state }) i;
       first =
-          ap (λ (k : ℕ). take k after) m ∙ ap (take (length w)) (e.1 ∙ ap (λ (x : ℕ). (run_by x t lent s).samples) accepted)
+          ap (λ (k : ℕ). take k after) m ∙ ap (take (length w)) (e.1 ∙ ap (λ (x : ℕ). (run_by x t lent s).samples) z)
           ∙ take_at w (drop (length w) lent) (length w) refl;
       buffer = omega (arith, m, made-most n s k.range.chip.audio.counter g.short);
       held = λ places h. omega (arith, m, h g.short);

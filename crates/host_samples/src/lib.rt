@@ -1,17 +1,17 @@
 // A run for the host: its samples into a buffer, and from there to the host's bytes (H7).
 #![tactic(auto)]
 
-ghost use Rattle.std.specs.Prelude.{◌≡◌, cond, not, ◌++◌, ℕ, ◌+◌, ◌*◌, ◌/◌, ◌≤◌, ◌<◌, T, ltb, length, get_or, take, drop};
+ghost use Rattle.std.specs.Prelude.{◌≡◌, not, ◌++◌, ℕ, ◌+◌, ◌*◌, ◌/◌, ◌≤◌, ◌<◌, T, length, get_or, take, drop};
 ghost use Rattle.std.specs.Float.{nan};
 ghost use Rattle.std.specs.Float.Ieee.{is_nan};
 ghost use Rattle.std.proofs.lemmas.List.Edits.{sets};
 ghost use Rattle.bits.specs.Fields.{each};
-ghost use Rattle.board_state.specs.State.{Known};
-ghost use Rattle.call_run.specs.Run.{ran_of};
+ghost use Rattle.call_run.specs.Run.{run_answer, ran_of};
 ghost use Rattle.host_samples.specs.Samples.{sample_bytes, run_in, HoldsRun};
 
-use board_state::State;
+use call_refusals::known::KnownState;
 use call_run::run::{Ran, run_known};
+use refusals::Refusal;
 
 // One sample at a place of the bytes.
 fn put_sample(bytes: &mut [u8], at: usize, x: f32)
@@ -38,21 +38,12 @@ pub fn put_samples(samples: &[f32], k: usize, bytes: &mut [u8])
     }
 }
 
-fn at_most(room: usize, places: usize) -> usize
-    ensures { (result ≡ cond (ltb room places) room places) × (result ≤ places) }
-{
-    if room < places {
-        return room;
-    }
-    places
-}
-
 // N11: a run with room for a sample in each 4 of so many bytes, into a buffer that holds all that it can make.
-pub fn run_into(s: State, n: u64, bytes: usize, buf: &mut [f32]) -> Ran
-    requires { Known s × HoldsRun s n (length buf.old) }
-    ensures { (result ≡ ran_of (run_in s n (bytes / 4) buf.old))
-        × (buf.new ≡ (run_in s n (bytes / 4) buf.old).samples) }
+pub fn run_into(s: KnownState, n: u64, bytes: usize, buf: &mut [f32]) -> Result<Ran, Refusal>
+    requires { HoldsRun s.state n (length buf.old) }
+    ensures { (run_answer s.state result ≡ ran_of (run_in s.state n (bytes / 4) buf.old))
+        × (buf.new ≡ (run_in s.state n (bytes / 4) buf.old).samples) }
 {
-    let places = at_most(bytes / 4, buf.len());
+    let places = buf.len().min(bytes / 4);
     run_known(s, n, &mut buf[..places])
 }

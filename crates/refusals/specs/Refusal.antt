@@ -30,3 +30,8 @@ refusal_of (Err r) = number_of r
 abbrev pub answered {ℓ} : {A : Type 0} {B : Type ℓ} → (ℕ → B) → (A → B) → Result A Refusal → B
 answered refused accepted (Ok a) = accepted a
 answered refused accepted (Err r) = refused (number_of r)
+
+-- H6: a call's word: of a refused call the number
+abbrev pub word_of : Result ℕ Refusal → ℕ
+word_of (Ok w) = w
+word_of (Err r) = number_of r

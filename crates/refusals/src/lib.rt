@@ -2,7 +2,7 @@
 #![tactic(auto)]
 
 ghost use Rattle.std.specs.Prelude.{◌≡◌, ◌<◌};
-ghost use Rattle.refusals.specs.Refusal.{number_of, refusal_of};
+ghost use Rattle.refusals.specs.Refusal.{number_of, refusal_of, word_of};
 
 #[derive(Clone, Copy, Debug, PartialEq, Eq)]
 pub enum Refusal {
@@ -67,4 +67,11 @@ pub fn refusal_of<T>(answer: &Result<T, Refusal>) -> u8
         Ok(_) => 0,
         Err(r) => r.number(),
     }
+}
+
+// H6: the word of a call: its refusal's number, or what it gives.
+pub fn word(answer: Result<u64, Refusal>) -> u64
+    ensures { result ≡ word_of answer }
+{
+    answer.unwrap_or_else(|r| r.number() as u64)
 }

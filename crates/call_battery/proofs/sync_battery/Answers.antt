@@ -1,30 +1,27 @@
 -- `sync_battery` meets its contract: refused, and accepted.
-use mathlib.Core.Path.{◌≡◌, sym, ◌∙◌}
-use borrow.Author.Tests.{ne_eqb}
+use mathlib.Core.Path.{sym, ◌∙◌}
+use Rattle.refusals.proofs.Numbers.{passed, refuses}
 use Rattle.board_state.proofs.Range.{memory-good}
-use Rattle.call_refusals.specs.Refusals.{first_of, battery_checks}
 use Rattle.call_refusals.proofs.Laws.{battery-good}
-use lib.ListN.{length}
 use Rattle.call_battery.specs.Battery.{sync_arena}
 use Rattle.call_battery.proofs.sync_battery.Goals as goal
 
-pub returns-then-q-ne0 : goal.returns-then-q-ne0
+pub returns-in_err-check_battery : goal.returns-in_err-check_battery
 unfolding sync_arena
-returns-then-q-ne0 c = (c.battery_refusal-q.ensures, rw (← c.battery_refusal-q.ensures, ne_eqb _ _ c.if-q-ne0.true))
+returns-in_err-check_battery c = (
+  passed _ _ c.from_residual.ensures.1 ∙ c.in_err-check_battery.ensures,
+  rw (← c.in_err-check_battery.ensures, refuses _),
+)
 
--- none of the checks holds
-pub battery_start-at-requires : goal.battery_start-at-requires
-battery_start-at-requires c =
-    let accepted : first_of (battery_checks c.args.s (length c.args.arena.now)) ≡ 0 = sym c.battery_refusal-q.ensures ∙ c.if-q-ne0.false in
-    (memory-good _ (battery-good _ _ accepted).arena.good).ranged.sized
+pub battery_start-requires : goal.battery_start-requires
+battery_start-requires c = (memory-good _ (battery-good _ _ (sym c.in_ok-check_battery.ensures)).arena.good).ranged.sized
 
 pub put_battery-requires : goal.put_battery-requires
-put_battery-requires c =
-    let accepted : first_of (battery_checks c.args.s (length c.args.arena.now)) ≡ 0 = sym c.battery_refusal-q.ensures ∙ c.if-q-ne0.false in
-    rw c.battery_start-at.ensures (battery-good _ _ accepted).inside
+put_battery-requires c = rw c.battery_start.ensures (battery-good _ _ (sym c.in_ok-check_battery.ensures)).inside
 
 pub returns : goal.returns
 unfolding sync_arena
-returns c =
-    let accepted : first_of (battery_checks c.args.s (length c.args.arena.now)) ≡ 0 = sym c.battery_refusal-q.ensures ∙ c.if-q-ne0.false in
-    (sym accepted, rw (accepted, ← c.battery_start-at.ensures) c.put_battery.ensures)
+returns c = (
+  c.in_ok-check_battery.ensures,
+  rw (← c.in_ok-check_battery.ensures, ← c.battery_start.ensures) c.put_battery.ensures,
+)

@@ -2,11 +2,12 @@
 use borrow.Author.Tests.{eq-eqb, ne_eqb}
 use Rattle.call_load.specs.Cartridge.{memory_at_load}
 use Rattle.call_load.proofs.memory_at_load.Goals as goal
-
-pub returns-then-mapper-eq19 : goal.returns-then-mapper-eq19
-unfolding memory_at_load
-returns-then-mapper-eq19 c = rw (eq-eqb _ _ c.if-mapper-eq19.true, c.new_memory-m.ensures.0)
+use Rattle.call_load.proofs.memory_at_load.Goals.{then-mapper-eq19, else-mapper-eq19}
 
 pub returns : goal.returns
 unfolding memory_at_load
-returns c = rw (ne_eqb _ _ c.if-mapper-eq19.false, c.new_memory-m.ensures.0)
+returns c =
+    rw c.new_memory.ensures.0 (elim c.if-mapper-eq19.branch [
+      then-mapper-eq19 w ↦ rw (w.battery_ext_len-is, eq-eqb _ _ w.if-mapper-eq19.true)
+      | else-mapper-eq19 w ↦ rw (w.battery_ext_len-is, ne_eqb _ _ w.if-mapper-eq19.false)
+    ])

@@ -1,17 +1,20 @@
 -- `chr_write` meets its contract: refused, and accepted.
 use mathlib.Core.Path.{sym, ◌∙◌}
-use borrow.Author.Tests.{ne_eqb}
+use Rattle.refusals.proofs.Numbers.{passed, refuses}
 use Rattle.call_refusals.proofs.Laws.{arena-good, backed}
 use Rattle.call_regions.specs.Regions.{chr_write_arena}
 use Rattle.call_regions.proofs.chr_write.Goals as goal
 
-pub returns-then-q-ne0 : goal.returns-then-q-ne0
+pub returns-in_err-check_arena : goal.returns-in_err-check_arena
 unfolding chr_write_arena
-returns-then-q-ne0 c = (c.arena_refusal-q.ensures, rw (← c.arena_refusal-q.ensures, ne_eqb _ _ c.if-q-ne0.true))
+returns-in_err-check_arena c = (
+  passed _ _ c.from_residual.ensures.1 ∙ c.in_err-check_arena.ensures,
+  rw (← c.in_err-check_arena.ensures, refuses _),
+)
 
 pub chr_write-requires : goal.chr_write-requires
-chr_write-requires c = backed _ _ (arena-good _ _ (sym c.arena_refusal-q.ensures ∙ c.if-q-ne0.false))
+chr_write-requires c = backed _ _ (arena-good _ _ (sym c.in_ok-check_arena.ensures))
 
 pub returns : goal.returns
 unfolding chr_write_arena
-returns c = let e = sym c.arena_refusal-q.ensures ∙ c.if-q-ne0.false in (sym e, rw e c.chr_write.ensures)
+returns c = (c.in_ok-check_arena.ensures, rw (← c.in_ok-check_arena.ensures) c.chr_write.ensures)

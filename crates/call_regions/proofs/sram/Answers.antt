@@ -1,18 +1,18 @@
 -- `sram` meets its contract: refused, and accepted.
-use mathlib.Core.Path.{sym, ◌∙◌}
-use borrow.Author.Tests.{ne_eqb}
+use Rattle.refusals.proofs.Numbers.{errs}
 use Rattle.board_state.proofs.Range.{memory-good}
-use Rattle.call_refusals.proofs.Laws.{state-good}
+use Rattle.call_refusals.specs.Refusals.{first_of}
+use Rattle.call_refusals.proofs.Laws.{known-range}
 use Rattle.call_regions.specs.Regions.{sram_answer}
 use Rattle.call_regions.proofs.sram.Goals as goal
 
-pub returns-then-q-ne0 : goal.returns-then-q-ne0
-unfolding sram_answer
-returns-then-q-ne0 c = rw (← c.state_refusal-q.ensures, ne_eqb _ _ c.if-q-ne0.true)
+pub returns-in_err-known : goal.returns-in_err-known
+unfolding sram_answer first_of
+returns-in_err-known c = rw (errs _ _ c.from_residual.ensures.1, c.in_err-known.ensures.0, c.in_err-known.ensures.1)
 
-pub sram-span-requires : goal.sram-span-requires
-sram-span-requires c = (memory-good _ (state-good _ (sym c.state_refusal-q.ensures ∙ c.if-q-ne0.false))).ranged.sized
+pub sram-requires : goal.sram-requires
+sram-requires c = (memory-good _ c.in_ok-known.known.in_range).ranged.sized
 
 pub returns : goal.returns
-unfolding sram_answer
-returns c = rw (sym c.state_refusal-q.ensures ∙ c.if-q-ne0.false, c.sram-span.ensures)
+unfolding sram_answer first_of
+returns c = rw (known-range c.in_ok-known.known c.in_ok-known.ensures, c.sram.ensures, c.in_ok-known.ensures)

@@ -19,7 +19,7 @@ use Rattle.idle_runs.proofs.Busy.{ends_same, busy-stops, busy-least}
 use Rattle.call_run.specs.declared.run.Ran.{Ran}
 use Rattle.call_run.specs.Clock.{state_clock}
 use Rattle.call_idle.specs.Idle.{idle, ends, counted}
-use Rattle.call_run.specs.Run.{clocks, made, run_limit, run_checks, run_gave, ran_of}
+use Rattle.call_run.specs.Run.{clocks, made, run_limit, run_checks, run_gave, ran_in}
 use Rattle.call_run.proofs.run.Idle.{tests, counted-least}
 use Rattle.call_run.proofs.run.Laws.{run-good}
 
@@ -68,13 +68,13 @@ gave-same n k s lent e h = rw (h, piece-accepted n k (length lent) s e h) (same-
 module _ (n : ℕ) (s : State) (lent : List Float) where
   -- before its piece
   pub record Fresh (now : List Float) (r : Ran) (k : ℕ) : Type 0 where
-    pub ran : r ≡ record { refusal = 0; made = 0; rise = 0; state = s }
+    pub ran : r ≡ record { made = 0; rise = 0; state = s }
     pub samples : now ≡ lent
     pub none : k ≡ 0
 
   -- behind it
   pub record Done (now : List Float) (r : Ran) (k : ℕ) : Type 0 where
-    pub ran : r ≡ ran_of (run_gave s n lent)
+    pub ran : r ≡ ran_in (run_gave s n lent)
     pub samples : now ≡ (run_gave s n lent).samples
     pub least : Least state_clock n k s
 
@@ -138,7 +138,7 @@ module _ (n : ℕ) (s : State) (lent : List Float) where
           }
 
       pub piece-done : (now : List Float) (r : Ran) (k more : ℕ) → Piece now r k more → (after : List Float) (next : Ran)
-          → next ≡ ran_of (run_gave r.state more now) → after ≡ (run_gave r.state more now).samples → Done after next (k + more)
+          → next ≡ ran_in (run_gave r.state more now) → after ≡ (run_gave r.state more now).samples → Done after next (k + more)
       piece-done now r k more p after next e a =
           let f = p.fresh in
           let this : more ≡ counted n s = omega (arith, p.count, f.none) in

@@ -1,27 +1,34 @@
 -- `fill` meets its contract: the directory unfit, the call refused, and accepted.
-use mathlib.Core.Path.{sym, ◌∙◌}
+use mathlib.Core.Path.{refl}
+use Rattle.refusals.proofs.Numbers.{numbered, errs}
 use Rattle.call_blocks.specs.Blocks.{fill_leaves, fill_drops}
 use Rattle.call_blocks.proofs.Laws.{told-unfit, told-refused, told-accepted, all-gone}
 use Rattle.call_blocks.proofs.calls.fill.Goals as goal
 
-pub returns-then-not-fit : goal.returns-then-not-fit
+pub returns-in_err-check_directory : goal.returns-in_err-check_directory
 unfolding fill_leaves fill_drops
-returns-then-not-fit c =
-    let unfit = sym c.fit.ensures ∙ c.if-not-fit.true in
-    let told = told-unfit c.args.d.now _ c.args.arena.now _ _ unfit in
-    record { value = told.0; arena_after = told.1.0; d_after = told.1.1 }
+returns-in_err-check_directory c =
+    let told = told-unfit c.args.d.now _ c.args.arena.now _ _ c.in_err-check_directory.ensures.1 in
+    record {
+      value = rw (errs _ _ c.from_residual.ensures.1, c.in_err-check_directory.ensures.0) told.0;
+      arena_after = told.1.0;
+      d_after = told.1.1;
+    }
 
-pub returns-then-q-ne0 : goal.returns-then-q-ne0
+pub returns-in_err-fill : goal.returns-in_err-fill
 unfolding fill_leaves fill_drops
-returns-then-q-ne0 c =
-    let passed = sym c.fit.ensures ∙ c.if-not-fit.false in
-    let told = told-refused c.args.d.now _ c.args.arena.now _ _ passed c.fill-q.ensures c.if-q-ne0.true in
-    record { value = told.0; arena_after = told.1.0; d_after = told.1.1 }
+returns-in_err-fill c =
+    let told =
+    told-refused c.args.d.now _ c.args.arena.now _ _ c.in_ok-check_directory.ensures c.in_err-fill.ensures (numbered _) in
+    record {
+      value = rw (errs _ _ c.from_residual-in_err-fill.ensures.1) told.0;
+      arena_after = told.1.0;
+      d_after = told.1.1;
+    }
 
 pub returns : goal.returns
 unfolding fill_leaves fill_drops
 returns c =
-    let passed = sym c.fit.ensures ∙ c.if-not-fit.false in
-    let gone = all-gone _ passed c.empty.ensures in
-    let told = told-accepted c.args.d.now _ c.args.arena.now _ _ passed c.fill-q.ensures c.if-q-ne0.false gone in
+    let gone = all-gone _ c.in_ok-check_directory.ensures (c.fill-2.ensures.after (λ y e. e)) in
+    let told = told-accepted c.args.d.now _ c.args.arena.now _ _ c.in_ok-check_directory.ensures c.in_ok-fill.ensures refl gone in
     record { value = told.0; arena_after = told.1.0; d_after = told.1.1 }

@@ -1,12 +1,9 @@
 -- `cpu_read` meets its contract: refused by the state's check, or on with a state in range.
-use mathlib.Core.Path.{sym, ◌∙◌}
+use Rattle.refusals.proofs.Numbers.{errs}
 use Rattle.call_refusals.specs.Refusals.{first_of}
 use Rattle.call_cpu.specs.Calls.{cpu_read}
 use Rattle.call_cpu.proofs.calls.cpu_read.Goals as goal
 
-pub cpu_read_known-requires : goal.cpu_read_known-requires
-cpu_read_known-requires c = sym c.in_range.ensures ∙ c.if-in_range.true
-
-pub returns : goal.returns
+pub returns-in_err-new : goal.returns-in_err-new
 unfolding first_of cpu_read
-returns c = rw (← c.in_range.ensures, c.if-in_range.false)
+returns-in_err-new c = rw (errs _ _ c.from_residual.ensures.1, c.in_err-new.ensures.0, c.in_err-new.ensures.1)

@@ -1,15 +1,12 @@
 -- `cpu_write` meets its contract: refused by the state's check, or on with a state in range.
-use mathlib.Core.Path.{sym, ◌∙◌}
+use Rattle.refusals.proofs.Numbers.{errs}
 use Rattle.call_refusals.specs.Refusals.{first_of}
 use Rattle.call_cpu.specs.Calls.{cpu_write, cpu_write_arena}
 use Rattle.call_cpu.proofs.calls.cpu_write.Goals as goal
 
-pub cpu_write_known-requires : goal.cpu_write_known-requires
-cpu_write_known-requires c = sym c.in_range.ensures ∙ c.if-in_range.true
-
-pub returns : goal.returns
+pub returns-in_err-new : goal.returns-in_err-new
 unfolding first_of cpu_write cpu_write_arena
-returns c = (
-  rw (← c.in_range.ensures, c.if-in_range.false) c.refused_write.ensures,
-  rw (← c.in_range.ensures, c.if-in_range.false),
+returns-in_err-new c = (
+  rw (errs _ _ c.from_residual.ensures.1, c.in_err-new.ensures.0, c.in_err-new.ensures.1),
+  rw c.in_err-new.ensures.1,
 )

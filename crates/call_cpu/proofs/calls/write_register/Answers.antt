@@ -4,8 +4,8 @@ use Rattle.call_cpu.proofs.calls.write_register.Goals as goal
 
 pub returns-then-remaps_in : goal.returns-then-remaps_in
 unfolding write_register
-returns-then-remaps_in c = rw (c.remap_banks-mapped.ensures, ← c.write_register-chip.ensures, ← c.remaps_in.ensures, c.if-remaps_in.true)
+returns-then-remaps_in c = rw (c.remap_banks-memory.ensures, ← c.write_register-chip.ensures, ← c.remaps_in.ensures, c.if-remaps_in.true)
 
-pub returns-else-remaps_in : goal.returns-else-remaps_in
+pub returns : goal.returns
 unfolding write_register
-returns-else-remaps_in c = rw (← c.write_register-chip.ensures, ← c.remaps_in.ensures, c.if-remaps_in.false)
+returns c = rw (← c.write_register-chip.ensures, ← c.remaps_in.ensures, c.if-remaps_in.false)

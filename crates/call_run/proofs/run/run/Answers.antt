@@ -1,19 +1,18 @@
 -- `run` meets its contract: refused by the state's check, or on with a state in range.
-use mathlib.Core.Path.{◌≡◌, sym, ◌∙◌}
-use native.Mathlib.Omega.{arith}
+use mathlib.Core.Path.{◌≡◌}
 use lib.ListN.{length}
+use Rattle.refusals.specs.Refusal.{number_of}
+use Rattle.refusals.proofs.Numbers.{numbered, errs}
 use Rattle.call_refusals.specs.Refusals.{first_of}
+use Rattle.call_refusals.proofs.Laws.{unknown}
 use Rattle.call_run.specs.Run.{run_checks}
 use Rattle.call_run.proofs.run.Laws.{refused-run}
 use Rattle.call_run.proofs.run.run.Goals as goal
 
-pub run_known-requires : goal.run_known-requires
-run_known-requires c = sym c.in_range.ensures ∙ c.if-in_range.true
-
 -- the state's check comes first
-pub returns : goal.returns
-unfolding first_of
-returns c =
-    let by_state : 2 ≡ first_of (run_checks c.args.s c.args.n (length c.args.samples.now)) =
-    rw (← c.in_range.ensures, c.if-in_range.false) in
-    let g = refused-run c.args.s c.args.n c.args.samples.now 2 by_state (λ e. omega arith) in (rw g, rw g)
+pub returns-in_err-new : goal.returns-in_err-new
+returns-in_err-new c =
+    let a = c.args in
+    let by_state : number_of _ ≡ first_of (run_checks a.s a.n (length a.samples.now)) = unknown _ _ _ c.in_err-new.ensures in
+    let g = refused-run a.s a.n a.samples.now _ by_state (numbered _) in
+    (rw (errs _ _ c.from_residual.ensures.1, g), rw g)

@@ -5,9 +5,9 @@ use lib.ListN.{length}
 use Rattle.call_run.proofs.run.Loop.{Going}
 use Rattle.call_run.proofs.run.run_counted.Given as goal
 
-abbrev pub invariant-loop-at : goal.invariant-loop-at
-invariant-loop-at l = Going l.n l.initial.ran.state l.initial.samples l.samples l.ran l.clocks
+abbrev pub invariant-loop-ran : goal.invariant-loop-ran
+invariant-loop-ran l = Going l.n l.initial.ran.state l.initial.samples l.samples l.ran l.clocks
     × (length l.samples ≡ length l.initial.samples)
 
-abbrev pub decreases-loop-at : goal.decreases-loop-at
-decreases-loop-at l = l.n - l.clocks
+abbrev pub decreases-loop-ran : goal.decreases-loop-ran
+decreases-loop-ran l = l.n - l.clocks

@@ -5,14 +5,14 @@ use Rattle.call_run.proofs.run.samples_made.Goals as goal
 
 pub returns-then-not-is_163 : goal.returns-then-not-is_163
 returns-then-not-is_163 c = rw (
-  made-floor c.args.n c.args.s (counter-small _ c.requires),
+  made-floor c.args.n c.args.s.state (counter-small _ c.args.s.in_range),
   ← c.is_163.ensures,
   c.if-not-is_163.true,
 )
 
 pub returns-then-chip : goal.returns-then-chip
 returns-then-chip c = rw (
-  made-floor c.args.n c.args.s (counter-small _ c.requires),
+  made-floor c.args.n c.args.s.state (counter-small _ c.args.s.in_range),
   ← c.is_163.ensures,
   c.if-not-is_163.false,
   c.if-chip.true,
@@ -20,7 +20,7 @@ returns-then-chip c = rw (
 
 pub returns : goal.returns
 returns c = rw (
-  made-floor c.args.n c.args.s (counter-small _ c.requires),
+  made-floor c.args.n c.args.s.state (counter-small _ c.args.s.in_range),
   ← c.is_163.ensures,
   c.if-not-is_163.false,
   c.if-chip.false,

@@ -1,7 +1,0 @@
--- `put_ram` meets its contract: the sound RAM is as long as the part.
-use mathlib.Core.Path.{sym, ◌∙◌}
-use Rattle.sound.proofs.audio.Typed.{typed}
-use Rattle.call_battery.proofs.put_ram.Goals as goal
-
-pub copy-requires : goal.copy-requires
-copy-requires c = (typed c.args.audio _ c.well_formed.1.0).ram_length ∙ sym c.requires
