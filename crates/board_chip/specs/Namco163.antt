@@ -1,9 +1,10 @@
 -- R8: the board's fields, and the board with some of them replaced.
-use Rattle.std.specs.Prelude.{ℕ, Bool, true, false, List}
+use Rattle.std.specs.Prelude.{◌≡◌, ℕ, ◌≤◌, Bool, true, false, List, Result, MatchResult}
 use Rattle.memory.specs.declared.mirroring.Mirroring.{Mirroring}
 use Rattle.sound.specs.declared.audio.Audio.{Audio}
 use Rattle.board_chip.specs.declared.namco163.Board.{Board}
 use Rattle.board_chip.specs.declared.namco163.Board.TheVariants.{Unknown, Namco163 as Is163, Namco175, Namco340}
+use Rattle.board_chip.specs.declared.namco163.NoBoard.{NoBoard}
 use Rattle.board_chip.specs.declared.namco163.Regs.{Regs}
 use Rattle.board_chip.specs.declared.namco163.Namco163.{Namco163}
 
@@ -20,6 +21,10 @@ board_num Unknown = 0
 board_num Is163 = 1
 board_num Namco175 = 2
 board_num Namco340 = 3
+
+-- H1: the board with a number, or an error with a number that no board has
+abbrev pub Numbered : ℕ → Result Board NoBoard → Type 0
+Numbered n r = MatchResult r (λ b. board_num b ≡ n) (λ e. (e.0 ≡ n) × (4 ≤ n))
 
 -- the Rust's `self.board == Board::..`
 abbrev pub is163 : Board → Bool

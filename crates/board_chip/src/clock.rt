@@ -6,20 +6,15 @@ use crate::namco163::Regs;
 
 impl Regs {
     // C1: one clock of the counter: enabled, it goes up to FFFF and stops there; reaching FFFF makes the line pending.
+    #[tactic(auto, unfolding(crate::specs::Clock::clock_counter, cut::specs::Counter::next_counter, cut::specs::Counter::rises_from, cut::specs::Counter::moves))]
     pub fn clock(mut self) -> Regs
         ensures { result ≡ clock_counter self }
     {
-        let counter = self.irq_counter;
-        if counter < 0x8000 {
-            return self;
-        }
-        if counter == 0xFFFF {
-            return self;
-        }
-        let next = std::num::wrapping_add_u16(counter, 1);
-        self.irq_counter = next;
-        if next == 0xFFFF {
-            self.irq_pending = true;
+        if self.irq_counter >= 0x8000 && self.irq_counter != 0xFFFF {
+            self.irq_counter += 1;
+            if self.irq_counter == 0xFFFF {
+                self.irq_pending = true;
+            }
         }
         self
     }

@@ -9,12 +9,7 @@ impl Board {
     pub fn prg_ram_readable(self) -> bool
         ensures { result ≡ prg_ram_readable self }
     {
-        match self {
-            Board::Unknown => false,
-            Board::Namco163 => true,
-            Board::Namco175 => true,
-            Board::Namco340 => false,
-        }
+        matches!(self, Board::Namco163 | Board::Namco175)
     }
 
     // Whether work RAM takes stores.
@@ -22,35 +17,30 @@ impl Board {
         ensures { result ≡ prg_ram_writable self protect }
     {
         match self {
-            Board::Unknown => false,
             Board::Namco163 => true,
             Board::Namco175 => protect % 2 == 1,
-            Board::Namco340 => false,
+            Board::Unknown | Board::Namco340 => false,
         }
     }
 }
 
 impl Namco163 {
     // L6: whether detection acts. A 340 whose written flag is set, no matter when, stays a 340 until a reset clears the flag.
+    #[tactic(auto, unfolding(crate::specs::Detection::may_change))]
     fn may_change(self) -> bool
         ensures { result ≡ may_change self }
     {
-        if self.auto_detect_board {
-            if self.prg_ram_written_to {
-                let board = self.board;
-                return !board.is_340();
-            }
-            return true;
-        }
-        false
+        self.auto_detect_board && (!self.prg_ram_written_to || self.board != Board::Namco340)
     }
 
+    #[tactic(auto, unfolding(crate::specs::Detection::maybe_set_board))]
     pub fn maybe_set_board(self, board: Board) -> Namco163
         ensures { result ≡ maybe_set_board self board }
     {
         if self.may_change() {
-            return self.with_board(board);
+            self.with_board(board)
+        } else {
+            self
         }
-        self
     }
 }

@@ -6,79 +6,61 @@ use crate::namco163::{Board, Namco163, Regs};
 use memory::mirroring::Mirroring;
 use sound::audio::Audio;
 
+#[tactic(auto, unfolding(crate::specs::Load::board_at_load))]
 fn board_at_load(mapper: u16, submapper: u8) -> Board
     ensures { result ≡ board_at_load mapper submapper }
 {
-    if mapper == 19 {
-        return Board::Namco163;
+    match (mapper, submapper) {
+        (19, _) => Board::Namco163,
+        (210, 1) => Board::Namco175,
+        (210, 2) => Board::Namco340,
+        _ => Board::Unknown,
     }
-    if mapper != 210 {
-        return Board::Unknown;
-    }
-    if submapper == 1 {
-        return Board::Namco175;
-    }
-    if submapper == 2 {
-        return Board::Namco340;
-    }
-    Board::Unknown
 }
 
 // `known` says whether the game database has an entry.
+#[tactic(auto, unfolding(crate::specs::Load::detecting_at_load))]
 fn detecting_at_load(mapper: u16, submapper: u8, known: bool) -> bool
     ensures { result ≡ detecting_at_load mapper submapper known }
 {
-    if mapper == 19 {
-        return !known;
+    match (mapper, submapper) {
+        (19, _) => !known,
+        (210, 1 | 2) => false,
+        (210, _) => true,
+        _ => false,
     }
-    if mapper != 210 {
-        return false;
-    }
-    if submapper == 1 {
-        return false;
-    }
-    if submapper == 2 {
-        return false;
-    }
-    true
 }
 
+#[tactic(auto, unfolding(crate::specs::Load::mirroring_at_load))]
 fn mirroring_at_load(flags: u8) -> Mirroring
     ensures { result ≡ mirroring_at_load flags }
 {
     if flags / 8 % 2 == 1 {
-        return Mirroring::FourScreen;
+        Mirroring::FourScreen
+    } else if flags % 2 == 1 {
+        Mirroring::Vertical
+    } else {
+        Mirroring::Horizontal
     }
-    if flags % 2 == 1 {
-        return Mirroring::Vertical;
-    }
-    Mirroring::Horizontal
 }
 
 impl Namco163 {
+    #[tactic(auto, unfolding(crate::specs::Load::chip_at_load))]
     pub fn load(mapper: u16, submapper: u8, flags: u8, known: bool) -> Namco163
         ensures { result ≡ chip_at_load mapper submapper flags known }
     {
-        let regs = Regs::new();
-        let board = board_at_load(mapper, submapper);
-        let audio = Audio::new();
-        let auto_detect_board = detecting_at_load(mapper, submapper, known);
-        let mirroring = mirroring_at_load(flags);
-        let nt_bank_enable = [false; 12];
-        let chr_banks = [0u8; 12];
-        let prg_banks = [0u8; 3];
         Namco163 {
-            regs,
-            board,
+            regs: Regs::new(),
+            board: board_at_load(mapper, submapper),
             mapper_num: mapper,
             submapper_num: submapper,
-            audio,
-            auto_detect_board,
-            mirroring,
+            audio: Audio::new(),
+            auto_detect_board: detecting_at_load(mapper, submapper, known),
+            mirroring: mirroring_at_load(flags),
             prg_ram_written_to: false,
-            nt_bank_enable,
-            chr_banks,
-            prg_banks,
+            nt_bank_enable: [false; 12],
+            chr_banks: [0; 12],
+            prg_banks: [0; 3],
         }
     }
 }

@@ -1,11 +1,11 @@
 // The fields of the board, as the Rust has them, and the board with one of them replaced.
 ghost use Rattle.std.specs.Prelude.{◌≡◌, ◌<◌};
-ghost use Rattle.board_chip.specs.Namco163.{board_num, is163, is175, is340, with_board, with_mirroring};
+ghost use Rattle.board_chip.specs.Namco163.{Numbered, board_num, is163, is175, is340, with_board, with_mirroring};
 
 use memory::mirroring::Mirroring;
 use sound::audio::Audio;
 
-#[derive(Clone, Copy)]
+#[derive(Clone, Copy, Debug, PartialEq, Eq)]
 pub enum Board {
     Unknown,
     Namco163,
@@ -13,50 +13,57 @@ pub enum Board {
     Namco340,
 }
 
-impl Board {
-    // The board's number in an image.
-    pub fn num(self) -> u8
-        ensures { (result ≡ board_num self) × (result < 4) }
-    {
-        match self {
+// A number that no board has in an image.
+#[derive(Clone, Copy, Debug, PartialEq, Eq)]
+pub struct NoBoard(pub u8);
+
+// The board's number in an image.
+impl From<Board> for u8 {
+    ghost from_gives = { λ b n. (n ≡ board_num b) × (n < 4) };
+
+    fn from(board: Board) -> u8 {
+        match board {
             Board::Unknown => 0,
             Board::Namco163 => 1,
             Board::Namco175 => 2,
             Board::Namco340 => 3,
         }
     }
+}
 
+impl TryFrom<u8> for Board {
+    type Error = NoBoard;
+
+    ghost try_from_gives = { Numbered };
+
+    fn try_from(n: u8) -> Result<Self, NoBoard> {
+        match n {
+            0 => Ok(Board::Unknown),
+            1 => Ok(Board::Namco163),
+            2 => Ok(Board::Namco175),
+            3 => Ok(Board::Namco340),
+            _ => Err(NoBoard(n)),
+        }
+    }
+}
+
+impl Board {
     pub fn is_163(self) -> bool
         ensures { result ≡ is163 self }
     {
-        match self {
-            Board::Unknown => false,
-            Board::Namco163 => true,
-            Board::Namco175 => false,
-            Board::Namco340 => false,
-        }
+        self == Board::Namco163
     }
 
     pub fn is_175(self) -> bool
         ensures { result ≡ is175 self }
     {
-        match self {
-            Board::Unknown => false,
-            Board::Namco163 => false,
-            Board::Namco175 => true,
-            Board::Namco340 => false,
-        }
+        self == Board::Namco175
     }
 
     pub fn is_340(self) -> bool
         ensures { result ≡ is340 self }
     {
-        match self {
-            Board::Unknown => false,
-            Board::Namco163 => false,
-            Board::Namco175 => false,
-            Board::Namco340 => true,
-        }
+        self == Board::Namco340
     }
 }
 
@@ -94,48 +101,12 @@ impl Namco163 {
     pub fn with_board(self, board: Board) -> Namco163
         ensures { result ≡ with_board self board }
     {
-        let regs = self.regs;
-        let audio = self.audio;
-        let mirroring = self.mirroring;
-        let nt_bank_enable = self.nt_bank_enable;
-        let chr_banks = self.chr_banks;
-        let prg_banks = self.prg_banks;
-        Namco163 {
-            regs,
-            board,
-            mapper_num: self.mapper_num,
-            submapper_num: self.submapper_num,
-            audio,
-            auto_detect_board: self.auto_detect_board,
-            mirroring,
-            prg_ram_written_to: self.prg_ram_written_to,
-            nt_bank_enable,
-            chr_banks,
-            prg_banks,
-        }
+        Namco163 { board, ..self }
     }
 
     pub fn with_mirroring(self, mirroring: Mirroring) -> Namco163
         ensures { result ≡ with_mirroring self mirroring }
     {
-        let regs = self.regs;
-        let board = self.board;
-        let audio = self.audio;
-        let nt_bank_enable = self.nt_bank_enable;
-        let chr_banks = self.chr_banks;
-        let prg_banks = self.prg_banks;
-        Namco163 {
-            regs,
-            board,
-            mapper_num: self.mapper_num,
-            submapper_num: self.submapper_num,
-            audio,
-            auto_detect_board: self.auto_detect_board,
-            mirroring,
-            prg_ram_written_to: self.prg_ram_written_to,
-            nt_bank_enable,
-            chr_banks,
-            prg_banks,
-        }
+        Namco163 { mirroring, ..self }
     }
 }

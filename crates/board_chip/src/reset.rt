@@ -37,24 +37,15 @@ impl Regs {
 impl Namco163 {
     // C7: slots 8..11 are set to CIRAM bank 0; any bank would do, since a game writes them before it reads a nametable. C8: the page tables
     // show that only once a write makes them anew.
-    pub fn reset(self, kind: ResetKind) -> Namco163
+    #[tactic(auto, unfolding(crate::specs::Reset::reset_chip))]
+    pub fn reset(mut self, kind: ResetKind) -> Namco163
         ensures { result ≡ reset_chip self kind }
     {
-        let old = self.regs;
-        let regs = old.reset(kind);
-        let mut next = self;
-        next.regs = regs;
-        next.nt_bank_enable[8] = true;
-        next.nt_bank_enable[9] = true;
-        next.nt_bank_enable[10] = true;
-        next.nt_bank_enable[11] = true;
-        next.chr_banks[8] = 0;
-        next.chr_banks[9] = 0;
-        next.chr_banks[10] = 0;
-        next.chr_banks[11] = 0;
-        next.prg_ram_written_to = false;
-        let audio = Audio::new();
-        next.audio = audio;
-        next
+        self.regs = self.regs.reset(kind);
+        self.nt_bank_enable[8..].fill(true);
+        self.chr_banks[8..].fill(0);
+        self.prg_ram_written_to = false;
+        self.audio = Audio::new();
+        self
     }
 }

@@ -1,5 +1,5 @@
 // Register writes by their address: 4800..7FFF, and which functions have the rest.
-ghost use Rattle.std.specs.Prelude.{◌≤◌, ◌<◌, ◌≡◌};
+ghost use Rattle.std.specs.Prelude.{◌≡◌};
 ghost use Rattle.board_registers.specs.Writes.{write_sound_data, write_counter_low, write_counter_high, write_work_ram, write_chip, remaps};
 
 use board_chip::namco163::{Board, Namco163};
@@ -7,39 +7,35 @@ use board_chr::slots;
 use board_prg::banks;
 
 // 4800..4FFF: the sound port's data.
+#[tactic(auto, unfolding(crate::specs::Writes::write_sound_data))]
 fn write_sound_data(chip: Namco163, addr: u16, val: u8) -> Namco163
-    requires { chip.audio.addr < 128 }
     ensures { result ≡ write_sound_data chip addr val }
 {
-    let mut next = chip.maybe_set_board(Board::Namco163);
-    let audio = next.audio;
-    let written = audio.write_register(addr, val);
-    next.audio = written;
-    next
+    let mut chip = chip.maybe_set_board(Board::Namco163);
+    chip.audio.write_register(addr, val);
+    chip
 }
 
 // 5000..57FF: the counter's low byte.
+#[tactic(auto, unfolding(crate::specs::Writes::write_counter_low))]
 fn write_counter_low(chip: Namco163, val: u8) -> Namco163
     ensures { result ≡ write_counter_low chip val }
 {
-    let mut next = chip.maybe_set_board(Board::Namco163);
-    let mut regs = next.regs;
-    regs.irq_counter = regs.irq_counter / 256 * 256 + (val as u16);
-    regs.irq_pending = false;
-    next.regs = regs;
-    next
+    let mut chip = chip.maybe_set_board(Board::Namco163);
+    chip.regs.irq_counter = chip.regs.irq_counter / 256 * 256 + u16::from(val);
+    chip.regs.irq_pending = false;
+    chip
 }
 
 // 5800..5FFF: the counter's high byte, with the enable in bit 7.
+#[tactic(auto, unfolding(crate::specs::Writes::write_counter_high))]
 fn write_counter_high(chip: Namco163, val: u8) -> Namco163
     ensures { result ≡ write_counter_high chip val }
 {
-    let mut next = chip.maybe_set_board(Board::Namco163);
-    let mut regs = next.regs;
-    regs.irq_counter = regs.irq_counter % 256 + (val as u16) * 256;
-    regs.irq_pending = false;
-    next.regs = regs;
-    next
+    let mut chip = chip.maybe_set_board(Board::Namco163);
+    chip.regs.irq_counter = chip.regs.irq_counter % 256 + u16::from(val) * 256;
+    chip.regs.irq_pending = false;
+    chip
 }
 
 // 6000..7FFF: only the flag. The Rust asks for a step from a 340 to Unknown, which the flag, set before it, refuses (L10).
@@ -51,8 +47,8 @@ fn write_work_ram(mut chip: Namco163) -> Namco163
 }
 
 // The registers after a write. The tables are mapped anew where `remaps` says so.
+#[tactic(auto, unfolding(crate::specs::Writes::write_chip))]
 pub fn write_register(chip: Namco163, addr: u16, val: u8) -> Namco163
-    requires { chip.audio.addr < 128 }
     ensures { result ≡ write_chip chip addr val }
 {
     match addr {
@@ -73,15 +69,9 @@ pub fn write_register(chip: Namco163, addr: u16, val: u8) -> Namco163
 
 // L14: whether a write maps the tables anew: one to 8000..F7FF, whether or not a register changed, or one that changed the board. What is
 // left, the sound port, the counter, work RAM and the port's address, is written far more often than banks are.
+#[tactic(auto, unfolding(crate::specs::Writes::remaps))]
 pub fn remaps(old: Board, new: Board, addr: u16) -> bool
     ensures { result ≡ remaps old new addr }
 {
-    let changed = old.num() != new.num();
-    if addr < 0x8000 {
-        return changed;
-    }
-    if addr < 0xF800 {
-        return true;
-    }
-    changed
+    matches!(addr, 0x8000..=0xF7FF) || old != new
 }

@@ -27,29 +27,33 @@ pub struct State {
     pub f800_protects: bool,
 }
 
-fn banks_ok(banks: [u8; 3]) -> bool
-    ensures { result ≡ every 3 (bank_test banks) }
+// No test is skipped.
+fn banks_ok(banks: &[u8; 3]) -> bool
+    ensures { result ≡ every 3 (bank_test banks.now) }
 {
-    ((banks[0] <= BANK_MOST) & (banks[1] <= BANK_MOST)) & (banks[2] <= BANK_MOST)
+    banks
+        .iter()
+        .copied()
+        .fold(true, |ok, bank| ok & (bank <= BANK_MOST))
 }
 
 pub fn mapper_ok(mapper: u64) -> bool
     ensures { result ≡ mapper_ok mapper }
 {
-    (mapper == 19) | (mapper == 210)
+    matches!(mapper, 19 | 210)
 }
 
-fn chip_ok(chip: Namco163) -> bool
-    ensures { result ≡ chip_ok chip }
+#[tactic(auto, unfolding(crate::specs::State::chip_ok))]
+fn chip_ok(chip: &Namco163) -> bool
+    ensures { result ≡ chip_ok chip.now }
 {
-    let banks = chip.prg_banks;
-    let sound = chip.audio;
-    mapper_ok(chip.mapper_num as u64) & (banks_ok(banks) & audio_ok(sound))
+    mapper_ok(u64::from(chip.mapper_num)) & (banks_ok(&chip.prg_banks) & audio_ok(&chip.audio))
 }
 
 // Whether each field is in range, floats and entries too.
+#[tactic(auto, unfolding(crate::specs::State::in_range))]
 pub fn in_range(s: State) -> bool
     ensures { result ≡ in_range s }
 {
-    chip_ok(s.chip) & memory_ok(&s.memory)
+    chip_ok(&s.chip) & memory_ok(&s.memory)
 }

@@ -10,32 +10,29 @@ use memory::mirroring::Mirroring;
 use memory::page::Page;
 use sound::audio::Audio;
 
+#[tactic(auto, unfolding(crate::specs::None::no_state))]
 fn no_chip() -> Namco163
     ensures { result ≡ no_state.chip }
 {
-    let regs = Regs::new();
-    let mut audio = Audio::new();
-    audio.current_channel = 0;
-    let nt_bank_enable = [false; 12];
-    let chr_banks = [0u8; 12];
-    let prg_banks = [0u8; 3];
-    let board = Board::Unknown;
-    let mirroring = Mirroring::Vertical;
     Namco163 {
-        regs: regs,
-        board: board,
+        regs: Regs::new(),
+        board: Board::Unknown,
         mapper_num: 0,
         submapper_num: 0,
-        audio: audio,
+        audio: Audio {
+            current_channel: 0,
+            ..Audio::new()
+        },
         auto_detect_board: false,
-        mirroring: mirroring,
+        mirroring: Mirroring::Vertical,
         prg_ram_written_to: false,
-        nt_bank_enable: nt_bank_enable,
-        chr_banks: chr_banks,
-        prg_banks: prg_banks,
+        nt_bank_enable: [false; 12],
+        chr_banks: [0; 12],
+        prg_banks: [0; 3],
     }
 }
 
+#[tactic(auto, unfolding(crate::specs::None::no_state))]
 pub fn no_state() -> State
     ensures { result ≡ no_state }
 {
@@ -47,19 +44,15 @@ pub fn no_state() -> State
         chr_writable: false,
         ciram: 0,
     };
-    let page = Page::UNMAPPED;
-    let prg_pages = [page; 64];
-    let chr_pages = [page; 16];
-    let m = Memory {
-        layout: layout,
+    let memory = Memory {
+        layout,
         battery_ext_len: 0,
-        prg_pages: prg_pages,
-        chr_pages: chr_pages,
+        prg_pages: [Page::UNMAPPED; 64],
+        chr_pages: [Page::UNMAPPED; 16],
     };
-    let chip = no_chip();
     State {
-        chip: chip,
-        memory: m,
+        chip: no_chip(),
+        memory,
         f800_protects: false,
     }
 }

@@ -1,11 +1,10 @@
 // The CPU's calls: read and peek (L8), and write (L7, L15).
-ghost use Rattle.std.specs.Prelude.{◌≡◌, ◌<◌};
+ghost use Rattle.std.specs.Prelude.{◌≡◌};
 ghost use Rattle.memory_bytes.specs.Bytes.{Backed};
 ghost use Rattle.memory.specs.Range.{Sized};
 ghost use Rattle.call_answers.specs.Answers.{peeked};
 ghost use Rattle.call_cpu.specs.Calls.{cpu_byte, read_answer, cpu_read, cpu_peek, write_register, write_answer, cpu_write, cpu_write_arena};
 
-use board_chip::reads::Served;
 use board_protection::{remap_banks, remaps_in};
 use board_registers::writes;
 use board_state::State;
@@ -31,12 +30,12 @@ pub struct Written {
 
 // L8: the byte at a CPU address: the board's own, or else the page's.
 fn cpu_byte(s: State, arena: &[u8], addr: u16) -> u8
-    requires { (s.chip.audio.addr < 128) × Backed s.memory arena.now }
+    requires { Backed s.memory arena.now }
     ensures { result ≡ cpu_byte s arena.now addr }
 {
     match s.chip.prg_peek(addr) {
-        Served::Byte(b) => b,
-        Served::Nothing => bytes::prg_peek(s.memory, arena, addr),
+        Some(b) => b,
+        None => bytes::prg_peek(s.memory, arena, addr),
     }
 }
 
@@ -67,7 +66,7 @@ pub fn cpu_peek(s: State, arena: &[u8], addr: u16) -> Result<u8, Refusal>
 
 // L11, L21: the registers after a write, and the tables where they are mapped anew.
 pub fn write_register(s: State, addr: u16, val: u8) -> State
-    requires { (s.chip.audio.addr < 128) × Sized s.memory }
+    requires { Sized s.memory }
     ensures { result ≡ write_register s addr val }
 {
     let chip = writes::write_register(s.chip, addr, val);

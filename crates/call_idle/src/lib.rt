@@ -8,68 +8,53 @@ ghost use Rattle.call_idle.specs.Idle.{stepping, left, idle as idles, ends, coun
 use board_state::State;
 
 // On a 163 whose sound is enabled each clock moves the update counter.
+#[tactic(auto, unfolding(crate::specs::Idle::stepping))]
 fn steps(s: State) -> bool
     ensures { result ≡ stepping s }
 {
-    let chip = s.chip;
-    let board = chip.board;
-    let enabled = !chip.audio.disabled;
-    if !board.is_163() {
-        return false;
-    }
-    enabled
+    s.chip.board.is_163() && !s.chip.audio.disabled
 }
 
 // C1: the counter does not move.
+#[tactic(auto, unfolding(cut::specs::Counter::moves))]
 fn stands(c: u16) -> bool
     ensures { result ≡ not (moves c) }
 {
-    if c < 0x8000 {
-        return true;
-    }
-    c == 0xFFFF
+    c < 0x8000 || c == 0xFFFF
 }
 
 // The next clock alters neither state nor samples nor rise.
+#[tactic(auto, unfolding(crate::specs::Idle::idle))]
 fn idle(s: State) -> bool
     ensures { result ≡ idles s }
 {
-    if !steps(s) {
-        return stands(s.chip.regs.irq_counter);
-    }
-    false
+    !steps(s) && stands(s.chip.regs.irq_counter)
 }
 
 // Of n clocks that remain none alters anything.
+#[tactic(auto, unfolding(crate::specs::Idle::ends))]
 pub fn ended(s: State, n: u32) -> bool
     ensures { result ≡ ends n s }
 {
-    if n == 0 {
-        return true;
-    }
-    idle(s)
+    n == 0 || idle(s)
 }
 
 // The clocks until the counter stops.
+#[tactic(auto, unfolding(crate::specs::Idle::left))]
 fn clocks_left(c: u16) -> u32
     ensures { result ≡ left c }
 {
-    if stands(c) {
-        return 0;
-    }
-    (0xFFFF - c) as u32
+    if stands(c) { 0 } else { u32::from(0xFFFF - c) }
 }
 
 // As many of n clocks as can be made before one that alters nothing.
+#[tactic(auto, unfolding(crate::specs::Idle::counted))]
 pub fn piece(s: State, n: u32) -> u32
     ensures { result ≡ counted n s }
 {
     if steps(s) {
-        return n;
+        n
+    } else {
+        n.min(clocks_left(s.chip.regs.irq_counter))
     }
-    let left = clocks_left(s.chip.regs.irq_counter);
-    if n < left {
-        return n;
-    }
-    left
 }

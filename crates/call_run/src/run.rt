@@ -1,9 +1,7 @@
 // The public run: C4 to C6.
-ghost use Rattle.std.specs.Prelude.{◌≡◌, true, ◌++◌, ◌≤◌, length, drop};
+ghost use Rattle.std.specs.Prelude.{◌≡◌, length};
 ghost use Rattle.refusals.specs.Refusal.{refusal_of};
-ghost use Rattle.sound_clock.specs.Run.{sound_run, samples_of};
 ghost use Rattle.call_refusals.specs.Refusals.{first_of};
-ghost use Rattle.sound.specs.Range.{audio_ok};
 ghost use Rattle.idle_runs.specs.Idle.{Least};
 ghost use Rattle.call_run.specs.Clock.{state_clock};
 ghost use Rattle.call_run.specs.Run.{made, run_checks, run_gave, ran_in, run_answer, ran_of};
@@ -13,8 +11,6 @@ use board_state::State;
 use call_idle::{ended, piece};
 use call_refusals::known::KnownState;
 use refusals::Refusal;
-use sound::audio::Audio;
-use sound_clock::run::SoundRan;
 
 // N10: the most clocks of a run.
 pub const RUN_LIMIT: u64 = 29_781;
@@ -56,15 +52,6 @@ fn check_run(s: KnownState, n: u64, room: usize) -> Result<(), Refusal>
     Ok(())
 }
 
-// The sound's clocks, by updates.
-fn run_sound(audio: Audio, n: u32, samples: &mut [f32]) -> SoundRan
-    requires { (audio_ok audio ≡ true) × (length (samples_of n audio) ≤ length samples.old) }
-    ensures audio_value { (result.audio ≡ sound_run n audio) × (result.made ≡ length (samples_of n audio)) }
-    ensures samples_after { samples.new ≡ samples_of n audio ++ drop (length (samples_of n audio)) samples.old }
-{
-    sound_clock::run::run(audio, n, samples)
-}
-
 // So many clocks at once.
 fn run_piece(s: State, n: u32, samples: &mut [f32]) -> Ran
     requires { first_of (run_checks s n (length samples.old)) ≡ 0 }
@@ -81,10 +68,9 @@ fn run_piece(s: State, n: u32, samples: &mut [f32]) -> Ran
             state,
         };
     }
-    let ran = run_sound(s.chip.audio, n, samples);
-    state.chip.audio = ran.audio;
+    let made = sound_clock::run::run(&mut state.chip.audio, n, samples);
     Ran {
-        made: ran.made,
+        made,
         rise: counted.rise,
         state,
     }

@@ -45,7 +45,7 @@ pub fn regs_word(regs: Regs, board: Board, mapper: u16, submapper: u8) -> u64
     let lo = bit_of(regs.nt_select_lo);
     let hi = bit_of(regs.nt_select_hi);
     let counter = (regs.irq_counter as u64) * 8 + pending * 4 + lo * 2 + hi;
-    let protect = (regs.prg_ram_protect as u64) * 4 + (board.num() as u64);
+    let protect = (regs.prg_ram_protect as u64) * 4 + u64::from(u8::from(board));
     ((counter * 1024 + protect) * 65536 + (mapper as u64)) * 256 + (submapper as u64)
 }
 

@@ -1,7 +1,6 @@
 -- S10, S11: the sound port, the Rust's `peek_register`, `read_register` and `write_register`.
 use Rattle.std.specs.Prelude.{ℕ, ◌+◌, ◌/◌, ◌%◌, Bool, cond, ◌&&◌, eqb, leb, get_or, set}
 use Rattle.sound.specs.declared.audio.Audio.{Audio}
-use Rattle.sound.specs.declared.registers.SoundRead.{SoundRead}
 use Rattle.sound.specs.Audio.{with_ram, with_addr, with_disabled}
 
 -- whether an address is one of lo..=hi
@@ -15,6 +14,11 @@ peeked a addr = cond (within 0x4800 0x4FFF addr) (get_or a.ram a.addr 0) 0
 -- S10: with auto-increment the next address, and 0 behind 7F
 unfoldable pub advanced : Audio → Audio
 advanced a = cond a.auto_increment (with_addr a ((a.addr + 1) % 128) a.auto_increment) a
+
+-- a read's answer: the byte, and the sound after it
+pub record SoundRead : Type 0 where
+  pub byte : ℕ
+  pub audio : Audio
 
 -- S10: a read, the byte and the sound after it
 unfoldable pub read_of : Audio → ℕ → SoundRead

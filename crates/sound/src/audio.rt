@@ -37,19 +37,16 @@ impl Audio {
     pub fn new() -> Self
         ensures { result ≡ fresh }
     {
-        let ram = [0u8; Audio::RAM_SIZE];
-        let channel_out = [0.0f32; Audio::CHANNEL_COUNT];
-        let phase_ext = [0u32; Audio::CHANNEL_COUNT];
         Self {
-            ram,
+            ram: [0; Audio::RAM_SIZE],
             addr: 0,
             auto_increment: false,
             disabled: false,
             update_counter: 0,
             current_channel: 7,
-            channel_out,
+            channel_out: [0.0; Audio::CHANNEL_COUNT],
             out: 0.0,
-            phase_ext,
+            phase_ext: [0; Audio::CHANNEL_COUNT],
         }
     }
 }

@@ -5,6 +5,7 @@ ghost use Rattle.limits.specs.Limits.{out_most};
 ghost use Rattle.sound.specs.Levels.{whole_part};
 
 // The whole part of the float with these bits.
+#[tactic(auto, unfolding(crate::specs::Levels::whole_part))]
 pub fn whole_part(bits: u32) -> u32
     requires { bits ≤ out_most }
     ensures { (result ≡ whole_part bits) × (result < 2 ^ 24) }

@@ -19,6 +19,6 @@ pub extern "C" fn sound_bench_run(ram: &[u8], samples: &mut [f32], clocks: u32) 
         a.ram[i] = ram[i];
         i += 1;
     }
-    let ran = sound_clock::run::run(a, clocks, samples);
-    ran.made as u64
+    let made = sound_clock::run::run(&mut a, clocks, samples);
+    made as u64
 }

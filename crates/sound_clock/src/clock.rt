@@ -5,9 +5,11 @@ ghost use Rattle.sound.specs.Range.{InRange};
 ghost use Rattle.sound_clock.specs.Clock.{next_channel, sound_clock, update_channel};
 
 use sound::audio::Audio;
-use sound_wave::{channel, mix};
+use sound_wave::channel::{Channel, base_addr, channel_count};
+use sound_wave::mix;
 
 // S2: the channel after `k`.
+#[tactic(auto, unfolding(crate::specs::Clock::next_channel))]
 pub fn next_channel(k: u8, c: u8) -> u8
     requires { (k < 8) × (c < 8) }
     ensures { (result ≡ next_channel k c) × (result < 8) }
@@ -16,40 +18,34 @@ pub fn next_channel(k: u8, c: u8) -> u8
 }
 
 // The current channel's update.
-pub fn update_channel(mut a: Audio) -> Audio
-    requires { InRange a }
-    ensures { (result ≡ update_channel a) × InRange result }
+pub fn update_channel(a: &mut Audio)
+    requires { InRange a.old }
+    ensures { (a.new ≡ update_channel a.old) × InRange a.new }
 {
-    let k = a.current_channel as usize;
-    let base = channel::base_addr(k);
-    let last = a.phase_ext[k];
-    let phase = channel::next_phase(&a.ram, base, last);
-    let level = channel::level_at(&a.ram, base, phase);
-    let c = channel::channel_count(&a.ram);
-    a.channel_out[k] = level as f32;
-    a.out = mix::mix(&a.channel_out, c);
+    let k = usize::from(a.current_channel);
+    let channel = Channel {
+        ram: &a.ram,
+        base: base_addr(k),
+    };
+    let phase = channel.next_phase(a.phase_ext[k]);
+    let level = channel.level_at(phase);
+    a.channel_out[k] = f32::from(level);
+    a.out = mix::mix(&a.channel_out, channel_count(&a.ram));
     a.phase_ext[k] = phase;
-    a
 }
 
 // One sound clock.
-pub fn clock(a: Audio) -> Audio
-    requires { InRange a }
-    ensures { (result ≡ sound_clock a) × InRange result }
+pub fn clock(a: &mut Audio)
+    requires { InRange a.old }
+    ensures { (a.new ≡ sound_clock a.old) × InRange a.new }
 {
     if a.disabled {
-        return a;
+        return;
     }
-    let mut counted = a;
-    let u = counted.update_counter + 1;
-    if u == 15 {
-        counted.update_counter = 0;
-        let mut b = update_channel(counted);
-        let k = b.current_channel;
-        let c = channel::channel_count(&b.ram);
-        b.current_channel = next_channel(k, c);
-        return b;
+    a.update_counter += 1;
+    if a.update_counter == 15 {
+        a.update_counter = 0;
+        update_channel(a);
+        a.current_channel = next_channel(a.current_channel, channel_count(&a.ram));
     }
-    counted.update_counter = u;
-    counted
 }

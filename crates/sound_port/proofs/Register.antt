@@ -7,7 +7,7 @@ use native.Mathlib.Nat.{mod-eq_of_lt}
 use native.Mathlib.Omega.{arith}
 use lib.ListN.{get_or}
 use Rattle.sound.specs.declared.audio.Audio.{Audio}
-use Rattle.sound.specs.declared.registers.SoundRead.{SoundRead}
+use Rattle.sound.specs.Registers.{SoundRead}
 use Rattle.sound.specs.Audio.{with_addr}
 use Rattle.sound.specs.Registers.{peeked, advanced, read_of}
 use Rattle.sound.proofs.registers.Laws.{inside}

@@ -10,7 +10,6 @@ use lib.Dec.{eqb}
 use lib.ListN.{length, get_or, drop, drop_of_length-le}
 use lib.Seq.{drop-cons}
 use Rattle.sound.specs.declared.audio.Audio.{Audio}
-use Rattle.sound.specs.declared.registers.SoundRead.{SoundRead}
 use Rattle.sound.specs.Registers.{read_of}
 use Rattle.sound_port.specs.Lent.{port_of}
 use Rattle.sound_port.specs.Block.{reads, register_reads}
@@ -32,13 +31,13 @@ agree-all (suc n) a =
 pub agree-block : (n : ℕ) (a : Audio) (l : List ℕ) → a.addr < 128 → l ≡ reads n (port_of a) → agree l a ≡ n
 agree-block n a l r e = ap (λ (k : List ℕ). agree k a) (e ∙ (block-as-registers n a r).0) ∙ agree-all n a
 
--- one more byte is counted; s is the call's answer, and e whether its byte is the next one
-pub agree-more : (l : List ℕ) (a : Audio) (i same e all : ℕ) (s : SoundRead) → i < length l → s ≡ read_of a 0x4800
-    → e ≡ cond (eqb s.byte (get_or l i 0)) 1 0 → same + agree (drop i l) a ≡ all → same + e + agree (drop (i + 1) l) s.audio
-    ≡ all
+-- one more byte is counted; b and s are the call's answer, and e whether its byte is the next one
+pub agree-more : (l : List ℕ) (a : Audio) (i same e all b : ℕ) (s : Audio) → i < length l
+    → (b ≡ (read_of a 0x4800).byte) × (s ≡ (read_of a 0x4800).audio)
+    → e ≡ cond (eqb b (get_or l i 0)) 1 0 → same + agree (drop i l) a ≡ all → same + e + agree (drop (i + 1) l) s ≡ all
 unfolding agree
-agree-more l a i same e all s h r q t =
-    let u : agree (drop i l) a ≡ e + agree (drop (i + 1) l) s.audio = rw (drop-cons l i 0 h, add-one i, q, r) refl in
+agree-more l a i same e all b s h r q t =
+    let u : agree (drop i l) a ≡ e + agree (drop (i + 1) l) s = rw (drop-cons l i 0 h, add-one i, q, r.0, r.1) refl in
     omega (arith, u, t)
 
 pub agree-end : (l : List ℕ) (a : Audio) (i : ℕ) → length l ≤ i → agree (drop i l) a ≡ 0

@@ -25,9 +25,8 @@ fn agreeing(audio: Audio, bytes: &[u8]) -> usize
     let mut same: usize = 0;
     let mut i: usize = 0;
     while i < bytes.len() {
-        let s = a.read_register(0x4800);
-        same += equal(s.byte, bytes[i]);
-        a = s.audio;
+        let byte = a.read_register(0x4800);
+        same += equal(byte, bytes[i]);
         i += 1;
     }
     same

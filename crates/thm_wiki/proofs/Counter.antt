@@ -14,7 +14,7 @@ use lib.ListN.{length}
 use Rattle.cut.specs.Counter.{moves, next_counter, rises_from}
 use Rattle.board_chip.specs.declared.namco163.Namco163.{Namco163}
 use Rattle.board_chip.specs.declared.namco163.Regs.{Regs}
-use Rattle.board_chip.specs.declared.reads.Served.TheVariants.{Byte}
+use Rattle.std.specs.Prelude.{Some}
 use Rattle.board_chip.specs.Namco163.{is163}
 use Rattle.board_chip.specs.Clock.{clock_counter}
 use Rattle.board_chip.specs.Reads.{served, byte_or}
@@ -207,18 +207,18 @@ irq-above w a v h = rw (le-ltb a 0x5000 (omega arith), le-ltb a 0x5800 (omega ar
 
 -- ---- and read: W4, L8
 
-pub read-low-agrees : (n : Namco163) (a : ℕ) → 0x5000 ≤ a → a < 0x5800 → served n a ≡ Byte (wiki_read_low (irq_of n.regs))
+pub read-low-agrees : (n : Namco163) (a : ℕ) → 0x5000 ≤ a → a < 0x5800 → served n a ≡ Some (wiki_read_low (irq_of n.regs))
 unfolding served
 read-low-agrees n a l h =
     let e : n.regs.irq_counter % 0x8000 % 256 ≡ n.regs.irq_counter % 256 = omega arith in
     rw (le-ltb a 0x4800 (omega arith), le-ltb a 0x5000 l, lt-ltb a 0x5800 h, e)
 
 pub read-high-agrees : (n : Namco163) (a : ℕ) → n.regs.irq_counter < 65536 → 0x5800 ≤ a → a < 0x6000
-    → served n a ≡ Byte (wiki_read_high (irq_of n.regs))
+    → served n a ≡ Some (wiki_read_high (irq_of n.regs))
 unfolding served
 read-high-agrees n a b l h =
     rw (le-ltb a 0x4800 (omega arith), le-ltb a 0x5000 (omega arith), le-ltb a 0x5800 l, lt-ltb a 0x6000 h)
-    (ap Byte (go (leb 0x8000 n.regs.irq_counter) refl))
+    (ap Some (go (leb 0x8000 n.regs.irq_counter) refl))
   where
     go : (t : Bool) → leb 0x8000 n.regs.irq_counter ≡ t
         → n.regs.irq_counter / 256 ≡ cond t 128 0 + n.regs.irq_counter % 0x8000 / 256

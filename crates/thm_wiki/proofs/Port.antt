@@ -15,7 +15,7 @@ use Rattle.sound.specs.Registers.{peeked, advanced, read_of, written}
 use Rattle.sound.proofs.registers.Laws.{inside, past}
 use Rattle.memory_bytes.specs.Bytes.{prg_peek}
 use Rattle.board_chip.specs.declared.namco163.Namco163.{Namco163}
-use Rattle.board_chip.specs.declared.reads.Served.TheVariants.{Byte}
+use Rattle.std.specs.Prelude.{Some}
 use Rattle.board_chip.specs.Reads.{served, byte_or}
 use Rattle.board_state.specs.declared.State.{State}
 use Rattle.call_cpu.specs.Calls.{cpu_byte}
@@ -81,7 +81,7 @@ written-else a at v h =
     )
 
 -- what a CPU read of the data port answers
-port-served : (n : Namco163) (a : ℕ) → 0x4800 ≤ a → a < 0x5000 → served n a ≡ Byte (get_or n.audio.ram n.audio.addr 0)
+port-served : (n : Namco163) (a : ℕ) → 0x4800 ≤ a → a < 0x5000 → served n a ≡ Some (get_or n.audio.ram n.audio.addr 0)
 unfolding served peeked
 port-served n a l h = rw (le-ltb a 0x4800 l, lt-ltb a 0x5000 h, inside 0x4800 0x4FFF a l (omega arith))
 

@@ -29,7 +29,7 @@ use Rattle.memory_bytes.specs.Bytes.{prg_entry, chr_entry, shown_at, stored_at, 
 use Rattle.memory_bytes.proofs.Laws.Bytes.{store_other, wrapped-region, overlay-before, region-backed}
 use Rattle.board_chip.specs.declared.namco163.Namco163.{Namco163}
 use Rattle.board_chip.specs.Load.{chip_at_load}
-use Rattle.board_chip.specs.declared.reads.Served.TheVariants.{Nothing}
+use Rattle.std.specs.Prelude.{None}
 use Rattle.board_chip.specs.Reads.{served}
 use Rattle.board_registers.specs.Writes.{write_chip}
 use Rattle.board_protection.specs.Protection.{remap_banks, remaps_in}
@@ -183,7 +183,7 @@ shown-zero : (arena : List ℕ) → ZeroPage arena → (p : Page) (addr : ℕ) �
 shown-zero arena z p addr e = rw e (z (0 + addr % 1024) (omega arith))
 
 -- at 6000 and above the board serves nothing
-pub none-served : (n : Namco163) (addr : ℕ) → 0x6000 ≤ addr → served n addr ≡ Nothing
+pub none-served : (n : Namco163) (addr : ℕ) → 0x6000 ≤ addr → served n addr ≡ None
 unfolding served
 none-served n addr lo =
     rw (le-ltb addr 0x4800 (omega arith), le-ltb addr 0x5000 (omega arith), le-ltb addr 0x5800 (omega arith), le-ltb addr 0x6000 lo)

@@ -9,9 +9,8 @@ use lib.Dec.{T, eqb, leb, ltb}
 use lib.ListN.{length, get_or, get_or-eq_default}
 use lib.IntN.{pos}
 use lib.Ieee.{Float, nan, inf, fin, binary32, to_bits, is_nan, ne, eq, fits, of_bits, of_int, round, units, odd, size, span, climb}
-use lib.Ieee.Compare.{differs_from_itself}
 use lib.Ieee.Fits.{of_int-fits}
-use lib.Ieee.Bits.{of_bits-to_bits, is_true, is_false}
+use lib.Ieee.Bits.{of_bits-to_bits, is_true}
 use mir.Val.{Val}
 use denote.Laws.{Is}
 use Rattle.limits.specs.Limits.{phase_limit, level_most, out_most}
@@ -32,13 +31,6 @@ unfolding is_nan ne eq
 number nan e = let z : ◌≡◌ {A = ℕ} 0 1 = cc in absurd (omega arith)
 number (inf s) e = tt
 number (fin s m e) h = tt
-
-pub is_number : (x : Float) → ne x x ≡ false → is_nan x ≡ false
-is_number x e = is_false (is_nan x) (number x e)
-
-pub is-nan : (x : Float) → ne x x ≡ true → out_ok x ≡ false
-unfolding out_ok is_nan
-is-nan x e = rw (differs_from_itself x (subst T (sym e) tt))
 
 -- ---- `out`
 

@@ -8,8 +8,5 @@ use Rattle.sound.specs.Registers.{within}
 pub inside : (lo hi addr : ℕ) → lo ≤ addr → addr ≤ hi → within lo hi addr ≡ true
 inside lo hi addr l h = simp (le-leb lo addr l, le-leb addr hi h)
 
-pub before : (lo hi addr : ℕ) → addr < lo → within lo hi addr ≡ false
-before lo hi addr h = simp (lt-leb lo addr h)
-
 pub past : (lo hi addr : ℕ) → lo ≤ addr → hi < addr → within lo hi addr ≡ false
 past lo hi addr l h = simp (le-leb lo addr l, lt-leb addr hi h)

@@ -15,10 +15,10 @@ loop-i-init c = rw c.new-a.ensures (search rules, (fresh-range, (refl, refl)))
 pub loop-i-preserved : goal.loop-i-preserved
 loop-i-preserved c = (search rules, (other-range c.loop-i.a _ c.loop-i.invariant.1.0.counter c.loop-i.invariant.1.0.channel c.loop-i.invariant.1.0.address refl refl refl c.loop-i.invariant.1.0, (c.loop-i.invariant.1.1.0, c.loop-i.invariant.1.1.1)))
 
-pub run-ran-requires : goal.run-ran-requires
-run-ran-requires c = let u : c.loop-i.a.update_counter + c.args.clocks ≡ c.args.clocks = omega (arith, c.loop-i.invariant.1.1.1) in
+pub run-made-requires : goal.run-made-requires
+run-made-requires c = let u : c.loop-i.a.update_counter + c.args.clocks ≡ c.args.clocks = omega (arith, c.loop-i.invariant.1.1.1) in
     let e : length (samples_of c.args.clocks c.loop-i.a) ≡ c.args.clocks / 15 = made-closed c.args.clocks c.loop-i.a c.loop-i.invariant.1.0.counter ∙ rw (c.loop-i.invariant.1.1.0, u) in
     record { in_range = c.loop-i.invariant.1.0; a_in_bounds = omega (arith, e, c.if-samples-room.false) }
 
 pub shape_of-samples : goal.shape_of-samples
-shape_of-samples c = c.run-ran.auto.samples
+shape_of-samples c = c.run-made.auto.samples

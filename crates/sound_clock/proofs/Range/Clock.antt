@@ -1,21 +1,21 @@
 -- An update and a clock keep a state typed and in range.
-use Prim.Native.Nat.{ℕ, ◌+◌, ◌-◌, ◌≤◌}
+use Prim.Native.Nat.{ℕ, ◌+◌, ◌-◌, ◌≤◌, ◌<◌}
 use mathlib.Core.Path.{◌≡◌, refl, ◌∙◌}
 use mathlib.Core.Bool.{Bool, true, false, cond}
 use native.Mathlib.Omega.{arith}
 use borrow.Author.Tests.{eqb-false}
 use lib.Dec.{T, ltb, eqb}
-use lib.ListN.{length-set}
+use lib.ListN.{length, get_or, length-set}
 use lib.Ieee.{Float, nan, binary32, fits}
 use lib.Ieee.Fits.{div-fits, of_int-fits}
 use Rattle.limits.specs.Limits.{channel_most, phase_limit}
 use Rattle.sound.specs.declared.audio.Audio.{Audio}
 use Rattle.sound.specs.Audio.{with_counter}
-use Rattle.sound.specs.Range.{Level, Levels, OutValue, Typed, Known}
+use Rattle.sound.specs.Range.{Level, Levels, OutValue, InRange, Typed, Known}
 use Rattle.limits.proofs.Each.{each_set, below_set}
 use Rattle.sound.proofs.Floats.Bits.{value_out}
 use Rattle.sound.proofs.audio.Range.{other-typed, other-range, counter-typed, counter-known}
-use Rattle.sound_wave.specs.Channel.{channel_count}
+use Rattle.sound_wave.specs.Channel.{channel_count, base_addr, next_phase}
 use Rattle.sound_wave.specs.Mix.{mix_of}
 use Rattle.sound_wave.proofs.Range.Channel.{next-phase-small, level-small}
 use Rattle.sound_wave.proofs.Range.Mix.{mix-value}
@@ -50,42 +50,54 @@ update-levels a h i l =
     each_set Level nan a.channel_out _ _ (record { size = _; small = level-small _ _ _; is = refl }) i (h i l)
 
 -- after an update `out` is in 0..=3825, finite and no negative zero
-pub update-value : (a : Audio) → Known a → OutValue (update_channel a).out
+out-value : (a : Audio) → length a.channel_out ≡ 8 → Levels a.channel_out → OutValue (update_channel a).out
 unfolding update_channel
-update-value a k =
-    mix-value (update_channel a).channel_out (channel_count a.ram) (update-typed a k.typed).outputs_length
-    (update-levels a k.range.outputs) (omega arith)
+out-value a l h =
+    mix-value (update_channel a).channel_out (channel_count a.ram) (length-set a.channel_out _ _ ∙ l) (update-levels a h) (omega arith)
+
+pub update-value : (a : Audio) → Known a → OutValue (update_channel a).out
+update-value a k = out-value a k.typed.outputs_length k.range.outputs
+
+-- the update's phase
+abbrev pub phase-of : Audio → ℕ
+phase-of a = next_phase a.ram (base_addr a.current_channel) (get_or a.phase_ext a.current_channel 0)
+
+phase-small : (a : Audio) → Typed a → phase-of a < phase_limit
+phase-small a t = next-phase-small a.ram _ _ (t.bytes _)
+
+pub update-range : (a : Audio) → length a.channel_out ≡ 8 → phase-of a < phase_limit → InRange a → InRange (update_channel a)
+unfolding update_channel
+update-range a l p r =
+    record {
+      counter = r.counter;
+      channel = r.channel;
+      address = r.address;
+      phases = below_set a.phase_ext a.current_channel _ phase_limit r.phases p;
+      outputs = update-levels a r.outputs;
+      mixed = value_out _ (out-value a l r.outputs);
+    }
 
 pub update-known : (a : Audio) → Known a → Known (update_channel a)
-unfolding update_channel
 update-known a k =
-    let r = k.range in
     record {
       typed = update-typed a k.typed;
-      range =
-          record {
-            counter = r.counter;
-            channel = r.channel;
-            address = r.address;
-            phases = below_set a.phase_ext a.current_channel _ phase_limit r.phases
-                (next-phase-small a.ram _ _ (k.typed.bytes _));
-            outputs = update-levels a r.outputs;
-            mixed = value_out _ (update-value a k);
-          };
+      range = update-range a k.typed.outputs_length (phase-small a k.typed) k.range;
     }
 
 updated-typed : (a : Audio) → Typed a → Typed (updated a)
 unfolding updated
 updated-typed a t = other-typed (update_channel a) _ refl refl refl refl (update-typed a t)
 
-pub updated-known : (a : Audio) → Known a → Known (updated a)
+pub updated-range : (a : Audio) → length a.channel_out ≡ 8 → phase-of a < phase_limit → InRange a → InRange (updated a)
 unfolding updated update_channel
+updated-range a l p r =
+    other-range (update_channel a) _ r.counter (next-channel-small _ _ r.channel) r.address refl refl refl (update-range a l p r)
+
+pub updated-known : (a : Audio) → Known a → Known (updated a)
 updated-known a k =
-    let r = k.range in
     record {
       typed = updated-typed a k.typed;
-      range = other-range (update_channel a) _ r.counter (next-channel-small _ _ r.channel) r.address refl refl refl
-          (update-known a k).range;
+      range = updated-range a k.typed.outputs_length (phase-small a k.typed) k.range;
     }
 
 -- ---- a clock

@@ -12,8 +12,8 @@ pub loop-i-preserved : goal.loop-i-preserved
 loop-i-preserved c = (
   omega arith,
   omega (arith, c.equal-same.ensures.1),
-  rw c.read_register-s.ensures (stays-in-range c.loop-i.a c.loop-i.invariant.2),
-  agree-more c.args.bytes.now c.loop-i.a c.loop-i.i c.loop-i.same c.equal-same.result _ c.read_register-s.result (omega arith) c.read_register-s.ensures c.equal-same.ensures.0
+  rw c.read_register-byte.ensures.1 (stays-in-range c.loop-i.a c.loop-i.invariant.2),
+  agree-more c.args.bytes.now c.loop-i.a c.loop-i.i c.loop-i.same c.equal-same.result _ _ _ (omega arith) c.read_register-byte.ensures c.equal-same.ensures.0
       c.loop-i.invariant.3,
 )
 

@@ -1,12 +1,19 @@
 -- S7: the f32 sum of whole numbers is their exact sum; `out` is its quotient, rounded once; and with 1, 2, 4 or 8 channels no bit is lost.
 use Rattle.std.proofs.Common.{◌≡◌, ℕ, zero, suc, ◌+◌, ◌-◌, ◌*◌, ◌^◌, ◌<◌, ◌≤◌, Bool, true, false, leb, List, [], ◌∷◌, map, length, get_or, drop, set, sym, refl, ap, ◌∙◌, lt_of_le_of_lt, mul_assoc, mul-le-mul, arith, lit<, drop-set-lt, pow_pos, pow_mono, pow-add, leb-false, leb-true}
-use lib.Ieee.{Float, nan, binary32, round, of_bits}
+use lib.Ieee.{Float, nan, binary32, add, round, of_bits}
 use lib.Ieee.Exact.{HasValue, round_exact}
 use Rattle.limits.specs.Limits.{level_most}
 use Rattle.sound.specs.Levels.{whole}
 use Rattle.sound.proofs.levels.Laws.{zero_bits}
+use Rattle.std.specs.List.{fold}
 use Rattle.sound_wave.specs.Mix.{sum_from, sum_of, total, mix_of, resum_of}
 use Rattle.sound_wave.proofs.Floats.Whole.{add-whole, sub-whole, div-whole, minus-zero}
+
+-- additions from the left are a fold
+pub fold-sum : (t : Float) (xs : List Float) → fold (λ t x. add binary32 t x) t xs ≡ sum_from t xs
+unfolding sum_from
+fold-sum t [] = refl
+fold-sum t (x ∷ xs) = fold-sum (add binary32 t x) xs
 
 -- the f32 sum is the exact whole sum
 pub sum-exact : (ks : List ℕ) (t : ℕ) → t + total ks ≤ 2 ^ 24 → sum_from (whole t) (map whole ks) ≡ whole (t + total ks)

@@ -1,7 +1,6 @@
 -- `cpu_peek` meets its contract: refused, and accepted.
 use mathlib.Core.Path.{sym}
 use Rattle.refusals.proofs.Numbers.{errs, refuses}
-use Rattle.board_state.proofs.Range.{port-good}
 use Rattle.call_refusals.proofs.Laws.{cpu-good, backed}
 use Rattle.call_cpu.specs.Calls.{cpu_peek}
 use Rattle.call_cpu.proofs.calls.cpu_peek.Goals as goal
@@ -12,7 +11,7 @@ returns-in_err-check_cpu c = rw (errs _ _ c.from_residual.ensures.1, ← c.in_er
 
 -- none of the checks holds
 pub cpu_byte-requires : goal.cpu_byte-requires
-cpu_byte-requires c = let good = (cpu-good _ _ _ (sym c.in_ok-check_cpu.ensures)).0 in (port-good _ good.good, backed _ _ good)
+cpu_byte-requires c = backed _ _ (cpu-good _ _ _ (sym c.in_ok-check_cpu.ensures)).0
 
 pub returns : goal.returns
 unfolding cpu_peek

@@ -1,7 +1,6 @@
 -- `cpu_read_known` meets its contract: refused, and accepted.
 use mathlib.Core.Path.{sym}
 use Rattle.refusals.proofs.Numbers.{errs, refuses}
-use Rattle.board_state.proofs.Range.{port-good}
 use Rattle.call_refusals.proofs.Laws.{cpu-good, backed}
 use Rattle.call_cpu.specs.Calls.{cpu_read}
 use Rattle.call_cpu.proofs.calls.cpu_read_known.Goals as goal
@@ -12,11 +11,7 @@ returns-in_err-check_cpu_known c = rw (errs _ _ c.from_residual.ensures.1, ← c
 
 -- none of the checks holds
 pub cpu_byte-byte-requires : goal.cpu_byte-byte-requires
-cpu_byte-byte-requires c =
-    (port-good _ c.args.s.in_range, backed _ _ (cpu-good _ _ _ (sym c.in_ok-check_cpu_known.ensures)).0)
-
-pub after_read-chip-requires : goal.after_read-chip-requires
-after_read-chip-requires c = port-good _ c.args.s.in_range
+cpu_byte-byte-requires c = backed _ _ (cpu-good _ _ _ (sym c.in_ok-check_cpu_known.ensures)).0
 
 pub returns : goal.returns
 unfolding cpu_read

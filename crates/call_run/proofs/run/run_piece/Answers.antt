@@ -3,7 +3,7 @@ use mathlib.Core.Path.{◌≡◌, sym, ◌∙◌}
 use mathlib.Core.Bool.{true}
 use lib.ListN.{length}
 use Rattle.board_chip.specs.Namco163.{is163}
-use Rattle.board_state.proofs.Range.{sound-ok}
+use Rattle.board_state.proofs.Range.{known}
 use Rattle.call_run.specs.Run.{run_gave}
 use Rattle.call_run.proofs.run.Laws.{sounds-state, sounds-samples, silent-state, silent-samples, rise-is, run-good}
 use Rattle.call_run.proofs.run.run_piece.Goals as goal
@@ -23,11 +23,16 @@ returns-then-not-is_163 c =
       rw (c.requires, silent-samples c.args.n c.args.s p),
     )
 
-pub run_sound-ran-requires : goal.run_sound-ran-requires
-run_sound-ran-requires c =
+pub run-made-requires-clause-in_range : goal.run-made-requires-clause-in_range
+run-made-requires-clause-in_range c =
+    let g = run-good c.args.s c.args.n (length c.args.samples.now) c.requires in
+    (known c.args.s _ c.well_formed.0 g.good).range.chip.audio
+
+pub run-made-requires-clause-a_in_bounds : goal.run-made-requires-clause-a_in_bounds
+run-made-requires-clause-a_in_bounds c =
     let is-163 : is163 c.args.s.chip.board ≡ true = sym c.is_163.ensures ∙ c.if-not-is_163.false in
     let g = run-good c.args.s c.args.n (length c.args.samples.now) c.requires in
-    (sound-ok c.args.s g.good, rw (← sounds-samples c.args.n c.args.s is-163) g.enough)
+    rw (← sounds-samples c.args.n c.args.s is-163) g.enough
 
 pub returns : goal.returns
 unfolding run_gave
@@ -40,8 +45,8 @@ returns c =
         rise-is c.args.n c.args.s,
         c.run_counter-counted.ensures.0,
         c.run_counter-counted.ensures.1,
-        c.run_sound-ran.ensures.audio_value.0,
-        c.run_sound-ran.ensures.audio_value.1,
+        c.run-made.ensures.audio_value.0,
+        c.run-made.ensures.audio_value.1.0,
       ),
-      rw (c.requires, sounds-samples c.args.n c.args.s is-163) c.run_sound-ran.ensures.samples_after,
+      rw (c.requires, sounds-samples c.args.n c.args.s is-163) c.run-made.ensures.samples_after,
     )

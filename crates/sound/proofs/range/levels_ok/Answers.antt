@@ -1,16 +1,13 @@
--- `levels_ok` meets its contract: `ok` says whether all outputs before i pass.
-use mathlib.Core.Path.{◌≡◌, refl}
-use native.Mathlib.Omega.{arith}
+-- The fold tests each index.
+use Rattle.std.proofs.Common.{rules, ◌≡◌, ◌&&◌, true, ◌∙◌, ap}
+use lib.Ieee.{nan}
+use Rattle.std.specs.List.{fold}
 use Rattle.limits.specs.Every.{every}
-use Rattle.limits.proofs.Every.{every-next}
+use Rattle.sound.specs.Range.{level_ok, output_test}
+use Rattle.sound.proofs.Every.{every-fold}
 use Rattle.sound.proofs.range.levels_ok.Goals as goal
 
-pub loop-i-init : goal.loop-i-init
-unfolding every
-loop-i-init c = (omega arith, refl)
-
-pub loop-i-preserved : goal.loop-i-preserved
-loop-i-preserved c = (omega arith, every-next _ _ _ _ c.loop-i.invariant.1 c.level_ok-ok.ensures)
-
 pub returns : goal.returns
-returns c = let e : c.loop-i.i ≡ 8 = omega arith in rw e at c.loop-i.invariant.1
+returns c =
+    let e : c.fold.result ≡ fold (λ ok x. ok && level_ok x) true c.args.outs.now = search rules in
+    e ∙ every-fold level_ok nan c.args.outs.now ∙ ap (λ n. every n (output_test c.args.outs.now)) c.told-outs

@@ -1,16 +1,13 @@
--- `phases_ok` meets its contract: `ok` says whether all phases before i pass.
-use mathlib.Core.Path.{◌≡◌, refl}
-use native.Mathlib.Omega.{arith}
+-- The fold tests each index.
+use Rattle.std.proofs.Common.{rules, ◌≡◌, ◌&&◌, true, nat_lt, ◌∙◌, ap}
+use Rattle.std.specs.List.{fold}
 use Rattle.limits.specs.Every.{every}
-use Rattle.limits.proofs.Every.{every-next}
+use Rattle.limits.specs.Limits.{phase_limit}
+use Rattle.sound.specs.Range.{phase_test}
+use Rattle.sound.proofs.Every.{every-fold}
 use Rattle.sound.proofs.range.phases_ok.Goals as goal
 
-pub loop-i-init : goal.loop-i-init
-unfolding every
-loop-i-init c = (omega arith, refl)
-
-pub loop-i-preserved : goal.loop-i-preserved
-loop-i-preserved c = (omega arith, every-next _ _ _ _ c.loop-i.invariant.1 refl)
-
 pub returns : goal.returns
-returns c = let e : c.loop-i.i ≡ 8 = omega arith in rw e at c.loop-i.invariant.1
+returns c =
+    let e : c.fold.result ≡ fold (λ ok x. ok && nat_lt x phase_limit) true c.args.phases.now = search rules in
+    e ∙ every-fold (λ x. nat_lt x phase_limit) 0 c.args.phases.now ∙ ap (λ n. every n (phase_test c.args.phases.now)) c.told-phases

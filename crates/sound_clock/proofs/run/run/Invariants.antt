@@ -1,10 +1,6 @@
 -- The loop makes the updates that are due (`Going`), and those are the n single clocks (`run_on`, `samples-on`).
-use Prim.Native.Nat.{◌-◌}
 use Rattle.sound_clock.proofs.run.Loop.{Going}
 use Rattle.sound_clock.proofs.run.run.Given as goal
 
-abbrev pub invariant-loop-i : goal.invariant-loop-i
-invariant-loop-i l = Going l.initial.samples l.made l.initial.audio l.c l.samples l.audio l.sum l.i
-
-abbrev pub decreases-loop-i : goal.decreases-loop-i
-decreases-loop-i l = l.made - l.i
+abbrev pub invariant-loop-sample : goal.invariant-loop-sample
+invariant-loop-sample l = Going l.initial.sample-items l.made l.initial.a l.c l.sample-items l.a l.sum l.sample-index
