@@ -1,10 +1,9 @@
 -- Dropping keeps a directory fit, and a lookup afterwards finds exactly the blocks that do not go. Assumes nothing.
 use Rattle.std.proofs.Common.{◌≡◌, ℕ, suc, Bool, true, false, cond, not, ◌&&◌, ◌||◌, ltb, List, [], ◌∷◌, ◌++◌, length, get_or, sym, refl, ap, ◌∙◌, arith, eq-eqb, ne_eqb}
 use native.Mathlib.Decide.{ℕ_discrete}
-use Rattle.directory.specs.declared.Found.{Found}
 use Rattle.directory.specs.Block.{start_of, len_of, fits, free, holds}
 use Rattle.directory.specs.Fit.{any, sound, fit}
-use Rattle.directory.specs.Calls.{word_at, refused_lookup, found_of, lookup}
+use Rattle.directory.specs.Calls.{Found, word_at, refused_lookup, found_of, lookup}
 use Rattle.directory.specs.Drop.{goes, gone, kept, dropped}
 use Rattle.directory.proofs.Laws.Pages.{gone-none}
 use Rattle.directory.proofs.Laws.Sound.{holds-not-free, holds-start, holds-free, any_none, SoundCons}

@@ -4,6 +4,10 @@ use Rattle.directory.specs.Marks.{marked, mark}
 use Rattle.directory.proofs.Laws.Bits.{one_shl}
 use Rattle.directory.proofs.marks.note.Goals as goal
 
-pub returns : goal.returns
-unfolding marked mark
-returns c = record { value = refl; seen_after = rw (one_shl (c.args.start % 64) (omega arith)) }
+pub returns-clause-value : goal.returns-clause-value
+unfolding marked
+returns-clause-value c = refl
+
+pub returns-clause-seen_after : goal.returns-clause-seen_after
+unfolding mark
+returns-clause-seen_after c = rw (one_shl (c.args.start % 64) (omega arith))
