@@ -36,10 +36,8 @@ impl Block {
     pub fn fits(self) -> bool
         ensures { result ≡ fits self.start self.len }
     {
-        0x6000 <= self.start
-            && 1 <= self.len
-            && self.len <= 4096
-            && self.start as u32 + self.len as u32 <= 0x1_0000
+        let (start, len) = (self.start as u64, self.len as u64);
+        0x6000 <= start && 1 <= len && len <= 4096 && start + len <= 0x1_0000
     }
 
     pub fn word(self) -> u64

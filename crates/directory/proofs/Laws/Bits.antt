@@ -42,18 +42,17 @@ high_ones f k h = by (dec_le f k)
     by (yes p) = rw (le-leb f k p) (eq-eqb _ 1 (bit_at_mask_inside f 64 k p h))
     by (no p) = rw (lt-leb f k (omega (arith, p))) (ne_eqb _ 1 (λ z. omega (arith, bit_at_mask_below f 64 k (omega (arith, p)))))
 
-low_ones : (l k : ℕ) → has_bit k (2 ^ suc l - 1) ≡ leb k l
-low_ones l k = by (dec_le k l)
+low_ones : (l k : ℕ) → k < 64 → has_bit k (2 ^ (64 - (63 - l)) - 1) ≡ leb k l
+low_ones l k h = by (dec_le k l)
   where
-    by : Dec (k ≤ l) → has_bit k (2 ^ suc l - 1) ≡ leb k l
-    by (yes p) = rw (le-leb k l p) (eq-eqb _ 1 (bit_at_ones (suc l) k (omega (arith, p))))
-    by (no p) = rw (lt-leb k l (omega (arith, p))) (ne_eqb _ 1 (λ z. omega (arith, bit_at_ones_above (suc l) k (omega (arith, p)))))
+    by : Dec (k ≤ l) → has_bit k (2 ^ (64 - (63 - l)) - 1) ≡ leb k l
+    by (yes p) = rw (le-leb k l p) (eq-eqb _ 1 (bit_at_ones (64 - (63 - l)) k (omega (arith, p))))
+    by (no p) = rw (lt-leb k l (omega (arith, p))) (ne_eqb _ 1 (λ z. omega (arith, bit_at_ones_above (64 - (63 - l)) k (omega (arith, p)))))
 
-pub ones_between : (f l k : ℕ) → f < 64 → l < 64 → k < 64
+pub ones_between : (f l k : ℕ) → f < 64 → k < 64
     → has_bit k (bit_and ((2 ^ 64 - 1) * 2 ^ f % 2 ^ 64) ((2 ^ 64 - 1) / 2 ^ (63 - l))) ≡ (leb f k && leb k l)
-ones_between f l k a b c =
-    let e : 64 - (63 - l) ≡ suc l = omega arith in
-    rw (ones_shl 64 f (omega arith), ones_shr 64 (63 - l) (omega arith), e, bit-and k (2 ^ 64 - 2 ^ f) (2 ^ suc l - 1), high_ones f k c, low_ones l k)
+ones_between f l k a c =
+    rw (ones_shl 64 f (omega arith), ones_shr 64 (63 - l) (omega arith), bit-and k (2 ^ 64 - 2 ^ f) (2 ^ (64 - (63 - l)) - 1), high_ones f k c, low_ones l k c)
 
 -- ---- some bit is set
 

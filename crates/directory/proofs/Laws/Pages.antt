@@ -1,5 +1,5 @@
 -- The pages under a block, as the bits of one number. Assumes nothing.
-use Rattle.std.proofs.Common.{◌≡◌, ℕ, zero, suc, ◌+◌, ◌-◌, ◌/◌, ◌%◌, ◌^◌, ◌<◌, ◌≤◌, min, Bool, true, false, not, ◌&&◌, eqb, leb, sym, refl, ap, ◌∙◌, div-one, arith, shr-shr, eq-eqb, ne_eqb, le-leb, leb-true}
+use Rattle.std.proofs.Common.{◌≡◌, ℕ, zero, suc, ◌+◌, ◌-◌, ◌/◌, ◌%◌, ◌^◌, ◌<◌, ◌≤◌, Bool, true, false, not, ◌&&◌, eqb, leb, sym, refl, ap, ◌∙◌, div-one, arith, shr-shr, eq-eqb, ne_eqb, le-leb, leb-true}
 use native.Mathlib.Decide.{dec_le, ℕ_discrete}
 use native.Mathlib.Nat.{zero-div}
 use borrow.Author.Tests.{lt-leb}
@@ -85,11 +85,3 @@ gone-not touched w f e = by (ℕ_discrete w 0)
 -- and no page touched
 pub gone-none : (w : ℕ) → ((w ≡ 0 → ⊥) → fits (start_of w) (len_of w) ≡ true) → gone 0 w ≡ false
 gone-none w f = gone-not 0 w f (rw (zero-div (2 ^ (start_of w / 1024))))
-
--- a page behind the last of all is as good as the last
-pub min_page : (f l k : ℕ) → k < 64 → (leb f k && leb k (min l 63)) ≡ (leb f k && leb k l)
-min_page f l k h = ap (λ (b : Bool). leb f k && b) (by (dec_le k l))
-  where
-    by : Dec (k ≤ l) → leb k (min l 63) ≡ leb k l
-    by (yes p) = rw (le-leb k l p, le-leb k (min l 63) (omega (arith, p)))
-    by (no p) = rw (lt-leb k l (omega (arith, p)), lt-leb k (min l 63) (omega (arith, p)))

@@ -1,7 +1,6 @@
 -- One case of the definition for each return.
 use Rattle.std.proofs.Common.{◌≡◌, sym, ◌∙◌, rules}
 use Rattle.std.proofs.lemmas.Bool.{not-true, eqb-false}
-use Rattle.std.specs.Option.{IfSome}
 use Rattle.refusals.specs.Refusal.{number_of}
 use Rattle.directory.specs.Block.{block_of}
 use Rattle.directory.specs.Calls.{word_at, refused_lookup, lookup_answer}
