@@ -17,7 +17,7 @@ ghost use Rattle.directory.specs.Drop.{dropped};
 
 use crate::block::{Block, holds};
 use crate::drops::{some_goes, take_out};
-use crate::fitness::fit;
+use crate::fitness::check_directory;
 use crate::places::{free_place, near, place_of, put};
 use refusals::Refusal;
 
@@ -25,9 +25,7 @@ use refusals::Refusal;
 fn checked(d: &[u64], start: u16) -> Result<(), Refusal>
     ensures { result ≡ checked d.now start }
 {
-    if !fit(d) {
-        return Err(Refusal::State);
-    }
+    check_directory(d)?;
     if start < 0x4800 {
         return Err(Refusal::Address);
     }
@@ -52,8 +50,9 @@ pub fn register(d: &mut [u64], start: u16, len: u64, number: u32) -> Result<(), 
     Ok(())
 }
 
-// The word of the first place that holds a start, or 0. It tests nothing: of a fit directory it finds what a lookup does (lookup-finds),
-// and nothing below 6000 (low-none), where a lookup below 4800 is refused.
+// The word of the first place that holds a start. A place is a word of the host's, 0 where it is free: so 0 is none here too, as the C call
+// answers it. It tests nothing: of a fit directory it finds what a lookup does (lookup-finds), and nothing below 6000 (low-none), where a
+// lookup below 4800 is refused.
 pub fn find(d: &[u64], start: u16) -> u64
     ensures { result ≡ word_at start d.now }
 {
