@@ -1,11 +1,11 @@
 -- The bits of an or, an and, a power, and of a run of ones; a number is not 0 where some bit is set. Assumes nothing.
 use Rattle.std.proofs.Common.{◌≡◌, ℕ, zero, suc, ◌+◌, ◌-◌, ◌*◌, ◌/◌, ◌%◌, ◌^◌, ◌<◌, ◌≤◌, min, max, Bool, not, ◌&&◌, ◌||◌, eqb, leb, refl, ap, ◌∙◌, lt_of_le_of_lt, mod-lt, one-mul, one-add, arith, pow_pos, shl_exact, shr_lt, eq-eqb, ne_eqb, le-leb}
 use native.Mathlib.Decide.{dec_le, ℕ_discrete}
-use borrow.Author.Tests.{lt-leb}
 use lib.Bits.{bit_and, bit_or, or_add_and, and_le_l, and_le_r}
 use lib.Pow.{split}
 use Rattle.std.specs.Int.{bit_at}
 use Rattle.std.proofs.lemmas.Nat.Bits.{bit_at-lt, bit_at_or, bit_at_and, bit_at-pow_same, bit_at-pow_other, bit_at_mask_inside, bit_at_mask_below, bit_at_ones, bit_at_ones_above, ones_shl, ones_shr}
+use Rattle.std.proofs.lemmas.Bool.{lt-leb}
 use Rattle.memory.specs.Page.{has_bit}
 use Rattle.directory.specs.Drop.{some_below}
 

@@ -1,13 +1,14 @@
 -- Some places passed at once, with nothing decided between them: what they say, and that the places behind them decide the rest. Assumes
 -- nothing.
-use Rattle.std.proofs.Common.{◌≡◌, ℕ, ◌+◌, ◌-◌, ◌%◌, ◌<◌, ◌≤◌, Bool, true, false, not, ◌&&◌, ◌||◌, eqb, ltb, List, [], ◌∷◌, ◌++◌, length, refl, ap, ◌∙◌, append_assoc, arith, ltb-true, eqb-true}
-use mathlib.Core.Bool.{or_comm}
+use Rattle.std.proofs.Common.{◌≡◌, ℕ, ◌+◌, ◌-◌, ◌%◌, ◌<◌, ◌≤◌, Bool, true, false, ◌&&◌, ◌||◌, eqb, ltb, List, [], ◌∷◌, ◌++◌, length, sym, refl, ap, ◌∙◌, append_assoc, arith, ltb-true, eqb-true}
+use Rattle.std.proofs.Math.Bool.{and_assoc, and-true}
+use Rattle.std.proofs.lemmas.List.Recursion.{or_push}
 use lib.Bits.{bit_or, or_mod}
 use Rattle.std.specs.Bool.{then_some}
 use Rattle.std.specs.Option.{IfSome}
 use Rattle.std.specs.List.{fold, list_all}
-use Rattle.std.proofs.lemmas.Bool.{and_parts, or_parts}
-use Rattle.directory.specs.Block.{start_of, free, holds}
+use Rattle.std.proofs.lemmas.Bool.{eqb-false, and_parts, or_parts}
+use Rattle.directory.specs.Block.{start_of, free}
 use Rattle.directory.specs.Fit.{any, sound}
 use Rattle.directory.specs.Calls.{word_at}
 use Rattle.directory.specs.Drop.{gone}
@@ -15,7 +16,7 @@ use Rattle.directory.specs.Ordered.{all_free, ordered}
 use Rattle.directory.specs.Eights.{seen_from, Decides, Climbs}
 use Rattle.directory.proofs.Laws.Bits.{or_left, or_right, or-free}
 use Rattle.directory.proofs.Laws.Pages.{gone-not}
-use Rattle.directory.proofs.Laws.Sound.{sound-cons}
+use Rattle.directory.proofs.Laws.Sound.{holds-other, sound-cons}
 use Rattle.directory.proofs.Laws.Ordered.{Reaches, reaches_more, rises-of, ordered_step}
 
 -- ---- a start
@@ -23,28 +24,14 @@ use Rattle.directory.proofs.Laws.Ordered.{Reaches, reaches_more, rises-of, order
 -- one place more
 pub any_more : (p : ℕ → Bool) (d : List ℕ) (w : ℕ) → any p (d ++ w ∷ []) ≡ (any p d || p w)
 unfolding any
-any_more p [] w = or_comm (p w) false
-any_more p (v ∷ d) w = rw (any_more p d w) (or_assoc (p v) (any p d) (p w))
-  where
-    or_assoc : (a b c : Bool) → (a || (b || c)) ≡ ((a || b) || c)
-    or_assoc true b c = refl
-    or_assoc false b c = refl
-
--- a start that is not a place's is not held there
-not_start : (start w : ℕ) → eqb (start_of w) start ≡ false → holds start w ≡ false
-unfolding holds
-not_start start w e = rw e (go (not (free w)))
-  where
-    go : (b : Bool) → (b && false) ≡ false
-    go true = refl
-    go false = refl
+any_more p = or_push (any p) p refl (λ w d. refl)
 
 pub word_past : (start : ℕ) (d after : List ℕ) → any (λ w. eqb (start_of w) start) d ≡ false → word_at start (d ++ after) ≡ word_at start after
 unfolding any word_at
 word_past start [] after e = refl
 word_past start (w ∷ d) after e =
     let p = or_parts (eqb (start_of w) start) (any (λ w. eqb (start_of w) start) d) e in
-    rw (not_start start w p.0) (word_past start d after p.1)
+    rw (holds-other start w (eqb-false _ _ p.0)) (word_past start d after p.1)
 
 -- ---- a block that goes
 
@@ -53,17 +40,9 @@ zeros_or a b = ap (λ (n : ℕ). eqb n 0) (or_mod a b 5) ∙ or-free (a % 32) (b
 
 pub quiet_fold : (t a : ℕ) (d : List ℕ)
     → eqb (fold (λ seen w. bit_or seen (seen_from t w)) a d % 32) 0 ≡ (eqb (a % 32) 0 && list_all (λ w. eqb (seen_from t w % 32) 0) d)
-quiet_fold t a [] = go (eqb (a % 32) 0)
-  where
-    go : (b : Bool) → b ≡ (b && true)
-    go true = refl
-    go false = refl
+quiet_fold t a [] = sym (and-true (eqb (a % 32) 0))
 quiet_fold t a (w ∷ d) =
-    quiet_fold t (bit_or a (seen_from t w)) d ∙ rw (zeros_or a (seen_from t w)) (go (eqb (a % 32) 0) (eqb (seen_from t w % 32) 0) _)
-  where
-    go : (x y z : Bool) → ((x && y) && z) ≡ (x && (y && z))
-    go true y z = refl
-    go false y z = refl
+    quiet_fold t (bit_or a (seen_from t w)) d ∙ rw (zeros_or a (seen_from t w)) (and_assoc (eqb (a % 32) 0) (eqb (seen_from t w % 32) 0) _)
 
 pub record Past (t : ℕ) (d after : List ℕ) : Type 0 where
   pub goes : any (gone t) after ≡ any (gone t) (d ++ after)
@@ -127,13 +106,5 @@ rising-all {s} {d} {up} {b} {far} p y =
 
 pub free_fold : (a : ℕ) (d : List ℕ) → free (fold bit_or a d) ≡ (free a && all_free d)
 unfolding all_free
-free_fold a [] = go (free a)
-  where
-    go : (b : Bool) → b ≡ (b && true)
-    go true = refl
-    go false = refl
+free_fold a [] = sym (and-true (free a))
 free_fold a (w ∷ d) = free_fold (bit_or a w) d ∙ rw (or-free a w) (and_assoc (free a) (free w) (all_free d))
-  where
-    and_assoc : (a b c : Bool) → ((a && b) && c) ≡ (a && (b && c))
-    and_assoc true b c = refl
-    and_assoc false b c = refl

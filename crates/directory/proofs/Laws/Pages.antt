@@ -2,10 +2,9 @@
 use Rattle.std.proofs.Common.{◌≡◌, ℕ, zero, suc, ◌+◌, ◌-◌, ◌/◌, ◌%◌, ◌^◌, ◌<◌, ◌≤◌, Bool, true, false, not, ◌&&◌, eqb, leb, sym, refl, ap, ◌∙◌, div-one, arith, shr-shr, eq-eqb, ne_eqb, le-leb, leb-true}
 use native.Mathlib.Decide.{dec_le, ℕ_discrete}
 use native.Mathlib.Nat.{zero-div}
-use borrow.Author.Tests.{lt-leb}
 use lib.Bits.{bit_and}
 use Rattle.memory.specs.Page.{has_bit}
-use Rattle.std.proofs.lemmas.Bool.{and_parts}
+use Rattle.std.proofs.lemmas.Bool.{lt-leb, and_parts}
 use Rattle.directory.specs.Block.{start_of, len_of, fits, free, under}
 use Rattle.directory.specs.Drop.{some_below, goes, gone}
 use Rattle.directory.specs.Eights.{seen_from}
