@@ -7,7 +7,7 @@ use mathlib.Core.Option.{Option}
 use lib.Bits.{bit_or}
 use lib.Dec.{ltb}
 use lib.ListN.{length, replicate}
-use borrow.Author.Tests.{not-true, not-false, eq-eqb, ne_eqb}
+use borrow.Author.Tests.{eq-eqb, ne_eqb}
 use Rattle.memory.specs.Changes.{changes, prg_changes}
 use Rattle.memory_bytes.specs.Bytes.{prg_entry, stored_at}
 use Rattle.memory.specs.declared.layout.MemoryLayout.{MemoryLayout}

@@ -6,8 +6,8 @@ ghost use Rattle.call_load.specs.Cartridge.{loaded};
 ghost use Rattle.call_blocks.specs.Blocks.{with_directory, fill_leaves, fill_drops, sync_leaves, sync_drops};
 ghost use Rattle.call_blocks.specs.Blocks.{load_gives, load_leaves, load_drops};
 
-use crate::check_directory;
 use board_state::{Options, State};
+use directory::fitness::check_directory;
 use memory::layout::{MemoryLayout, Src};
 use refusals::Refusal;
 

@@ -7,11 +7,11 @@ ghost use Rattle.call_preview.specs.Preview.{previewed};
 ghost use Rattle.call_blocks.specs.Blocks.{with_directory, cpu_write_answer, cpu_write_leaves, cpu_write_drops, preview_answer};
 ghost use Rattle.call_blocks.specs.Blocks.{chr_write_leaves, chr_write_drops, region_write_leaves, region_write_drops};
 
-use crate::check_directory;
 use board_state::State;
 use call_cpu::calls::Written;
 use call_refusals::known::KnownState;
 use directory::drop_touched;
+use directory::fitness::check_directory;
 use directory_touched::{stored_chr, stored_prg, stored_region};
 use memory::changes::Changed;
 use memory::layout::Src;

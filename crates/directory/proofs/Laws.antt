@@ -1,4 +1,5 @@
 pub mod Bits
+pub mod Eights
 pub mod Pages
 pub mod Marks
 pub mod Places

@@ -1,8 +1,15 @@
 -- K3, K4: registering and looking up, refused calls too.
-use Rattle.std.specs.Prelude.{ℕ, min, max, false, cond, not, ◌||◌, List, [], ◌∷◌, ◌==◌, nat_lt, slice_set}
-use Rattle.directory.specs.declared.Found.{Found}
+use Rattle.std.specs.Prelude.{ℕ, min, max, Bool, true, false, cond, not, ◌||◌, Option, Some, None, Result, Ok, Err, List, [], ◌∷◌, ◌==◌, nat_lt, slice_set}
+use Rattle.refusals.specs.declared.Refusal.{Refusal}
+use Rattle.refusals.specs.declared.Refusal.TheVariants.{State, Address}
+use Rattle.refusals.specs.Refusal.{answered}
+use Rattle.directory.specs.declared.block.Block.{Block}
 use Rattle.directory.specs.Block.{len_of, number_of, word_of, fits, free, holds}
 use Rattle.directory.specs.Fit.{any, first, fit}
+
+-- N2, N8: what registering and looking up refuse alike
+abbrev pub checked : List ℕ → ℕ → Result (Unit {0}) Refusal
+checked d start = cond (not (fit d)) (Err State) (cond (nat_lt start 0x4800) (Err Address) (Ok tt))
 
 -- N2, N8, N13, N14: the first of them that holds
 unfoldable pub register_refusal : List ℕ → ℕ → ℕ → ℕ
@@ -29,6 +36,13 @@ unfoldable pub word_at : ℕ → List ℕ → ℕ
 word_at start [] = 0
 word_at start (w ∷ d) = cond (holds start w) w (word_at start d)
 
+-- a lookup's answer: all 0 for none and for refused
+pub record Found : Type 0 where
+  pub refusal : ℕ
+  pub held : Bool
+  pub len : ℕ
+  pub number : ℕ
+
 abbrev pub refused_lookup : ℕ → Found
 refused_lookup q = record { refusal = q; held = false; len = 0; number = 0 }
 
@@ -38,3 +52,11 @@ found_of w = record { refusal = 0; held = not (free w); len = len_of w; number =
 -- K4: the block whose start it is; none is an answer too
 unfoldable pub lookup : List ℕ → ℕ → Found
 lookup d start = cond (not (fit d)) (refused_lookup 2) (cond (nat_lt start 0x4800) (refused_lookup 8) (found_of (word_at start d)))
+
+-- the same of what the code answers
+abbrev pub found_block : Option Block → Found
+found_block None = record { refusal = 0; held = false; len = 0; number = 0 }
+found_block (Some b) = record { refusal = 0; held = true; len = b.len; number = b.number }
+
+abbrev pub lookup_answer : Result (Option Block) Refusal → Found
+lookup_answer r = answered refused_lookup found_block r

@@ -1,54 +1,58 @@
 // One place: 0 is free, any other number a block of start (16 bits), length (16) and number (32).
-ghost use Rattle.std.specs.Prelude.{◌≡◌, ◌^◌, ◌<◌};
-ghost use Rattle.directory.specs.Block.{start_of, len_of, number_of, word_of, fits, holds};
+ghost use Rattle.std.specs.Prelude.{◌≡◌};
+ghost use Rattle.directory.specs.Block.{word_of, fits, holds, block_of, registrable};
 
-pub fn start_of(w: u64) -> u16
-    ensures { result ≡ start_of w }
-{
-    (w / 0x1_0000_0000_0000 % 0x1_0000) as u16
+#[derive(Clone, Copy, Debug, PartialEq, Eq)]
+pub struct Block {
+    pub start: u16,
+    pub len: u16,
+    pub number: u32,
 }
 
-pub fn len_of(w: u64) -> u16
-    ensures { result ≡ len_of w }
-{
-    (w / 0x1_0000_0000 % 0x1_0000) as u16
-}
-
-pub fn number_of(w: u64) -> u32
-    ensures { result ≡ number_of w }
-{
-    (w % 0x1_0000_0000) as u32
-}
-
-pub fn word_of(start: u16, len: u64, number: u32) -> u64
-    requires { len < 2 ^ 16 }
-    ensures { result ≡ word_of start len number }
-{
-    start as u64 * 0x1_0000_0000_0000 + len * 0x1_0000_0000 + number as u64
-}
-
-// Whether a block could be registered.
-pub fn fits(start: u16, len: u64) -> bool
-    ensures { result ≡ fits start len }
-{
-    if start < 0x6000 {
-        return false;
+impl Block {
+    // The parts of a place's word.
+    pub fn of_word(w: u64) -> Block
+        ensures { result ≡ block_of w }
+    {
+        Block {
+            start: (w >> 48) as u16,
+            len: ((w >> 32) % 0x1_0000) as u16,
+            number: (w % 0x1_0000_0000) as u32,
+        }
     }
-    if len < 1 {
-        return false;
+
+    // A block that can be registered.
+    #[tactic(auto, unfolding(crate::specs::Block::fits))]
+    pub fn registrable(start: u16, len: u64, number: u32) -> Option<Block>
+        ensures { result ≡ registrable start len number }
+    {
+        let len = u16::try_from(len).ok()?;
+        let block = Block { start, len, number };
+        block.fits().then_some(block)
     }
-    if 4096 < len {
-        return false;
+
+    // Whether it could be registered.
+    #[tactic(auto, unfolding(crate::specs::Block::fits))]
+    pub fn fits(self) -> bool
+        ensures { result ≡ fits self.start self.len }
+    {
+        let (start, len) = (self.start as u64, self.len as u64);
+        0x6000 <= start && 1 <= len && len <= 4096 && start + len <= 0x1_0000
     }
-    start as u64 + len <= 0x1_0000
+
+    pub fn word(self) -> u64
+        ensures { result ≡ word_of self.start self.len self.number }
+    {
+        self.start as u64 * 0x1_0000_0000_0000
+            + self.len as u64 * 0x1_0000_0000
+            + self.number as u64
+    }
 }
 
 // Whether a place holds the block of a start.
+#[tactic(auto, unfolding(crate::specs::Block::holds))]
 pub fn holds(start: u16, w: u64) -> bool
     ensures { result ≡ holds start w }
 {
-    if w == 0 {
-        return false;
-    }
-    start_of(w) == start
+    w != 0 && Block::of_word(w).start == start
 }

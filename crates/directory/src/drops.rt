@@ -1,50 +1,45 @@
 // The blocks that go: whether there is one, and a directory without them.
-ghost use Rattle.std.specs.Prelude.{◌≡◌, ◌+◌, ◌/◌, ◌%◌, ◌^◌, ◌≤◌, true, bit_or};
+ghost use Rattle.std.specs.Prelude.{◌≡◌, ◌%◌, true, ◌==◌, IfSome};
+ghost use Rattle.std.specs.List.{list_all};
 ghost use Rattle.directory.specs.Fit.{any, sound};
 ghost use Rattle.directory.specs.Drop.{gone, dropped};
-ghost use Rattle.directory.specs.Eights.{seen_from, Quiet};
+ghost use Rattle.directory.specs.Eights.{seen_from, Decides};
 
+use crate::block::Block;
 use crate::pages::gone;
 
-// The touched pages as four blocks' first pages see them, the first page at bit 0.
-fn seen_from(touched: u64, a: u64, b: u64, c: u64, e: u64) -> u64
-    ensures { result
-        ≡ bit_or (seen_from touched a) (bit_or (seen_from touched b) (bit_or (seen_from touched c) (seen_from touched e))) }
+// Whether no block of eight places can go: a block has at most five pages. It decides nothing between them.
+fn quiet(eight: &[u64; 8], touched: u64) -> bool
+    ensures { result ≡ list_all (λ w. seen_from touched w % 32 == 0) eight.now }
 {
-    (touched >> (a / 0x1_0000_0000_0000 % 0x1_0000 / 1024))
-        | ((touched >> (b / 0x1_0000_0000_0000 % 0x1_0000 / 1024))
-            | ((touched >> (c / 0x1_0000_0000_0000 % 0x1_0000 / 1024))
-                | (touched >> (e / 0x1_0000_0000_0000 % 0x1_0000 / 1024))))
+    let seen = eight.iter().fold(
+        0,
+        |seen, w| seen | touched >> (Block::of_word(*w).start / 1024),
+    );
+    seen % 32 == 0
 }
 
-// Eight places at a time: a block has at most five pages. Where it is false the places are to be looked at one by one.
-fn quiet(d: &[u64], i: usize, touched: u64) -> bool
-    ensures { result ≡ true → Quiet touched d.now i }
+// The places behind the first eight, where no block of these can go. Where there are none the places are to be looked at one by one.
+fn past_quiet(d: &[u64], touched: u64) -> Option<&[u64]>
+    ensures { IfSome result (λ after. Decides touched d.now after.now) }
 {
-    if d.len() < 8 {
-        return false;
-    }
-    if d.len() - 8 < i {
-        return false;
-    }
-    let low = seen_from(touched, d[i], d[i + 1], d[i + 2], d[i + 3]);
-    let high = seen_from(touched, d[i + 4], d[i + 5], d[i + 6], d[i + 7]);
-    (low | high) % 32 == 0
+    let (eight, after) = d.split_first_chunk::<8>()?;
+    quiet(eight, touched).then_some(after)
 }
 
 pub fn some_goes(d: &[u64], touched: u64) -> bool
     requires { sound d.now ≡ true }
     ensures { result ≡ any (gone touched) d.now }
 {
-    let mut i: usize = 0;
-    while i < d.len() {
-        if quiet(d, i, touched) {
-            i += 8;
+    let mut rest = d;
+    while let Some((w, tail)) = rest.split_first() {
+        if let Some(after) = past_quiet(rest, touched) {
+            rest = after;
         } else {
-            if gone(touched, d[i]) {
+            if gone(touched, *w) {
                 return true;
             }
-            i += 1;
+            rest = tail;
         }
     }
     false
@@ -52,15 +47,12 @@ pub fn some_goes(d: &[u64], touched: u64) -> bool
 
 // Each block is taken out of its place, and put down behind those that stay if it stays too.
 pub fn take_out(d: &mut [u64], touched: u64)
-    requires { sound d.old ≡ true }
     ensures { d.new ≡ dropped touched d.old }
 {
-    let mut i: usize = 0;
     let mut j: usize = 0;
-    while i < d.len() {
+    for i in 0..d.len() {
         let w = d[i];
         d[i] = 0;
-        i += 1;
         if !gone(touched, w) {
             d[j] = w;
             j += 1;

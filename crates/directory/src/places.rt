@@ -1,50 +1,23 @@
 // Where a directory holds what.
-ghost use Rattle.std.specs.Prelude.{◌≡◌, ◌+◌, ◌≤◌, min, max, false, ◌||◌, length, ◌==◌};
+ghost use Rattle.std.specs.Prelude.{◌≡◌, ◌==◌, position};
 ghost use Rattle.directory.specs.Block.{start_of, free, holds};
-ghost use Rattle.directory.specs.Fit.{first};
-ghost use Rattle.directory.specs.Calls.{put};
-ghost use Rattle.directory.specs.Eights.{Others, Read};
+ghost use Rattle.directory.specs.Fit.{any};
+ghost use Rattle.directory.specs.Calls.{put, word_at};
 
-use crate::block::holds;
+use crate::block::{Block, holds};
 
-// The first place that holds a start, or the length.
-pub fn place_of(d: &[u64], start: u16) -> usize
-    ensures { result ≡ first (holds start) d.now }
+// The first place that holds a start.
+pub fn place_of(d: &[u64], start: u16) -> Option<usize>
+    ensures { result ≡ position (holds start) d.now }
 {
-    let mut i: usize = 0;
-    while i < d.len() {
-        if holds(start, d[i]) {
-            return i;
-        }
-        i += 1;
-    }
-    i
+    d.iter().position(|w| holds(start, *w))
 }
 
-// The first free place, or the length.
-pub fn free_place(d: &[u64]) -> usize
-    ensures { result ≡ first free d.now }
+// The first free place.
+pub fn free_place(d: &[u64]) -> Option<usize>
+    ensures { result ≡ position free d.now }
 {
-    let mut i: usize = 0;
-    while i < d.len() {
-        if d[i] == 0 {
-            return i;
-        }
-        i += 1;
-    }
-    i
-}
-
-fn lower(a: u64, b: u64) -> u64
-    ensures { result ≡ min a b }
-{
-    if a < b { a } else { b }
-}
-
-fn higher(a: u64, b: u64) -> u64
-    ensures { result ≡ max a b }
-{
-    if a < b { b } else { a }
+    d.iter().position(|w| *w == 0)
 }
 
 // Puts a block where its start belongs. Each with a higher start moves up by a place, to the first free one.
@@ -52,48 +25,38 @@ pub fn put(d: &mut [u64], word: u64)
     ensures { d.new ≡ put word d.old }
 {
     let mut carried = word;
-    let mut i: usize = 0;
-    while i < d.len() {
+    for i in 0..d.len() {
         let w = d[i];
         if w == 0 {
             d[i] = carried;
             return;
         }
-        d[i] = lower(carried, w);
-        carried = higher(carried, w);
-        i += 1;
+        d[i] = carried.min(w);
+        carried = carried.max(w);
     }
 }
 
-// Whether one of four places has a start, held or not.
-fn start_among(start: u16, a: u64, b: u64, c: u64, e: u64) -> bool
-    ensures { result ≡ (start_of a == start || (start_of b == start || (start_of c == start || start_of e == start))) }
+// Whether one of eight places has a start, held or not. It decides nothing between them.
+fn start_among(start: u16, eight: &[u64; 8]) -> bool
+    ensures { result ≡ any (λ w. start_of w == start) eight.now }
 {
-    let s = start as u64;
-    (a / 0x1_0000_0000_0000 % 0x1_0000 == s)
-        | ((b / 0x1_0000_0000_0000 % 0x1_0000 == s)
-            | ((c / 0x1_0000_0000_0000 % 0x1_0000 == s) | (e / 0x1_0000_0000_0000 % 0x1_0000 == s)))
+    let mut found = false;
+    for w in eight {
+        found |= Block::of_word(*w).start == start;
+    }
+    found
 }
 
-// Whether one of eight places has a start.
-fn start_near(d: &[u64], i: usize, start: u16) -> bool
-    requires { i + 8 ≤ length d.now }
-    ensures { result ≡ false → Others start d.now i }
+// The places from the first eight on that may hold a start; none before holds it.
+pub fn near(d: &[u64], start: u16) -> &[u64]
+    ensures { word_at start result.now ≡ word_at start d.now }
 {
-    start_among(start, d[i], d[i + 1], d[i + 2], d[i + 3])
-        | start_among(start, d[i + 4], d[i + 5], d[i + 6], d[i + 7])
-}
-
-// A place that none before holds the start, found eight at a time.
-pub fn place_near(d: &[u64], start: u16) -> usize
-    ensures { Read start d.now result }
-{
-    let mut i: usize = 0;
-    while 8 <= d.len() - i {
-        if start_near(d, i, start) {
-            return i;
+    let mut rest = d;
+    while let Some((eight, after)) = rest.split_first_chunk::<8>() {
+        if start_among(start, eight) {
+            return rest;
         }
-        i += 8;
+        rest = after;
     }
-    i
+    rest
 }

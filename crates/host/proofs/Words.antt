@@ -24,9 +24,8 @@ use Rattle.call_cpu.specs.Calls.{write_register, cpu_read, cpu_write}
 use Rattle.call_run.specs.Run.{clocks, made, run_limit}
 use Rattle.call_run.proofs.run.Laws.{made-most}
 use Rattle.thm_range.proofs.Calls.{cpu-write-mask}
-use Rattle.directory.specs.declared.Found.{Found}
 use Rattle.directory.specs.Fit.{fit}
-use Rattle.directory.specs.Calls.{word_at, refused_lookup, found_of, lookup}
+use Rattle.directory.specs.Calls.{Found, word_at, refused_lookup, found_of, lookup}
 use Rattle.call_blocks.specs.Blocks.{lookup_checks}
 use Rattle.host_state.specs.HostState.{Gives, unaltered, read_gives, write_gives, run_own, run_gives}
 use Rattle.host_state.proofs.Laws.{word_of}

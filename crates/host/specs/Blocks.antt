@@ -7,8 +7,7 @@ use Rattle.board_state.specs.declared.State.{State}
 use Rattle.call_refusals.specs.Refusals.{Check, first_of, unless_refused, unless_kept, load_checks}
 use Rattle.image_write.specs.Writing.{room_check}
 use Rattle.image_read.specs.Reading.{state_in}
-use Rattle.directory.specs.declared.Found.{Found}
-use Rattle.directory.specs.Calls.{word_at, found_of, lookup}
+use Rattle.directory.specs.Calls.{Found, word_at, found_of, lookup}
 use Rattle.call_blocks.specs.Blocks.{directory_check, with_directory, cpu_write_drops, places_check, load_drops}
 use Rattle.host_state.specs.HostState.{Gives, unaltered, write_gives}
 use Rattle.host_blocks.specs.HostBlocks.{stored_drops}

@@ -1,34 +1,45 @@
 // The six calls of the C host that take a directory of blocks (K1 to K7, H4): 256 places of 64 bits that the host owns, all 0 where no
 // block is held.
-ghost use Rattle.std.specs.Prelude.{◌≡◌};
-ghost use Rattle.directory.specs.Calls.{register_refusal, registered};
+ghost use Rattle.std.specs.Prelude.{◌≡◌, Some};
+ghost use Rattle.directory.specs.Calls.{register_refusal, registered, found_block};
 ghost use Rattle.host.specs.Host.{sizes_of, options_of};
-ghost use Rattle.host.specs.Blocks.{host_lookup, host_find, host_load_blocks, host_load_places, host_write_blocks, host_write_places};
+ghost use Rattle.host.specs.Blocks.{found_word, host_lookup, host_find, host_load_blocks, host_load_places, host_write_blocks, host_write_places};
 ghost use Rattle.host.specs.Blocks.{host_stored, host_stored_places};
 
 use crate::load::sizes_of;
 use board_state::Options;
 use call_blocks::calls::load;
-use directory::block::{len_of, number_of};
+use directory::block::Block;
 use directory::{find, lookup, register};
 use host_blocks::{stored_on, write_blocks_on};
 use image_read::reading::read_image;
 use image_write::writing::{put_image, room_for};
+use refusals::refusal_of;
+
+// The length in bits 8..31 and the number in bits 32..63.
+fn found_word(block: Block) -> u64
+    ensures { result ≡ found_word (found_block (Some block)) }
+{
+    block.len as u64 * 256 + block.number as u64 * 4_294_967_296
+}
 
 // Registers a block (K3). The word is the refusal number alone.
 pub fn namco163_register(directory: &mut [u64], start: u16, length: u64, number: u32) -> u64
     ensures value { result ≡ register_refusal directory.old start length }
     ensures directory_after { directory.new ≡ registered directory.old start length number }
 {
-    register(directory, start, length, number) as u64
+    refusal_of(&register(directory, start, length, number)) as u64
 }
 
 // The block held at a start (K4): its length in bits 8..31, its number in bits 32..63; 0 for none.
 pub fn namco163_lookup(directory: &[u64], start: u16) -> u64
     ensures { result ≡ host_lookup directory.now start }
 {
-    let found = lookup(directory, start);
-    found.refusal as u64 + found.len as u64 * 256 + found.number as u64 * 4_294_967_296
+    match lookup(directory, start) {
+        Ok(None) => 0,
+        Ok(Some(block)) => found_word(block),
+        Err(refusal) => refusal.number() as u64,
+    }
 }
 
 // The same without the tests of N2 and N8: of a fit directory the word is a lookup's (found_word_lem), and 0 below 6000 (low-none of
@@ -36,8 +47,7 @@ pub fn namco163_lookup(directory: &[u64], start: u16) -> u64
 pub fn namco163_find(directory: &[u64], start: u16) -> u64
     ensures { result ≡ host_find directory.now start }
 {
-    let w = find(directory, start);
-    len_of(w) as u64 * 256 + number_of(w) as u64 * 4_294_967_296
+    found_word(Block::of_word(find(directory, start)))
 }
 
 // A load with options that empties the directory too (K7). It reads neither image nor places.

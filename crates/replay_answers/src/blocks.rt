@@ -1,28 +1,27 @@
 // The blocks of a directory. Each function answers where the next byte goes.
 use crate::answers::{end_line, refused, spaced};
-use directory::Found;
-use directory::block::{len_of, number_of, start_of};
+use directory::block::Block;
+use refusals::Refusal;
 use replay_text::out::{put_all, put_hex16, put_hex32};
 
 // A block's length and number.
-fn extent(out: &mut [u8], at: usize, len: u16, number: u32) -> usize {
-    let a = spaced(out, at, len as u64);
+fn extent(out: &mut [u8], at: usize, block: Block) -> usize {
+    let a = spaced(out, at, block.len as u64);
     let b = put_all(out, a, b" $");
-    put_hex32(out, b, number)
+    put_hex32(out, b, block.number)
 }
 
 // What a lookup found.
-pub fn found(out: &mut [u8], at: usize, f: Found) -> usize {
-    if f.refusal != 0 {
-        return refused(out, at, f.refusal);
-    }
-    if !f.held {
-        let a = put_all(out, at, b"ok none");
-        return end_line(out, a);
-    }
-    let a = put_all(out, at, b"ok");
-    let b = extent(out, a, f.len, f.number);
-    end_line(out, b)
+pub fn found(out: &mut [u8], at: usize, f: Result<Option<Block>, Refusal>) -> usize {
+    let end = match f {
+        Err(refusal) => return refused(out, at, refusal.number()),
+        Ok(None) => put_all(out, at, b"ok none"),
+        Ok(Some(block)) => {
+            let a = put_all(out, at, b"ok");
+            extent(out, a, block)
+        }
+    };
+    end_line(out, end)
 }
 
 // How many places are held.
@@ -45,8 +44,9 @@ fn place(out: &mut [u8], at: usize, w: u64) -> usize {
         return at;
     }
     let a = put_all(out, at, b" $");
-    let b = put_hex16(out, a, start_of(w));
-    extent(out, b, len_of(w), number_of(w))
+    let block = Block::of_word(w);
+    let b = put_hex16(out, a, block.start);
+    extent(out, b, block)
 }
 
 fn places(out: &mut [u8], at: usize, d: &[u64]) -> usize {

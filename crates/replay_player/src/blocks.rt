@@ -1,17 +1,16 @@
 // The calls on the directory alone, which take neither state nor arena.
 use crate::player::Player;
-use directory::Found;
+use refusals::refusal_of;
 use replay_answers::answers;
 use replay_calls::call::Call;
 
 fn register(d: &mut [u64], out: &mut [u8], at: usize, start: u16, len: u64, number: u32) -> usize {
-    let refusal = directory::register(d, start, len, number);
-    answers::ok(out, at, refusal)
+    let answer = directory::register(d, start, len, number);
+    answers::ok(out, at, refusal_of(&answer))
 }
 
 fn lookup(d: &[u64], out: &mut [u8], at: usize, start: u16) -> usize {
-    let f: Found = directory::lookup(d, start);
-    replay_answers::blocks::found(out, at, f)
+    replay_answers::blocks::found(out, at, directory::lookup(d, start))
 }
 
 // A call that `answer_words` hands it: one of the three.

@@ -1,103 +1,58 @@
 -- The bits of an or, an and, a power, and of a run of ones; a number is not 0 where some bit is set. Assumes nothing.
-use Rattle.std.proofs.Common.{◌≡◌, ℕ, zero, suc, ◌+◌, ◌-◌, ◌*◌, ◌/◌, ◌%◌, ◌^◌, ◌<◌, ◌≤◌, min, max, Bool, false, not, ◌&&◌, ◌||◌, eqb, leb, sym, refl, ap, ◌∙◌, lt_of_lt_of_le, lt_of_le_of_lt, mod-lt, mul_assoc, one-mul, pow-suc, one-add, arith, pow_pos, pow_mono, pow-add, shl_exact, shr-shr, shr_lt, eq-eqb, ne_eqb, le-leb}
-use native.Mathlib.Decide.{dec_le, dec_lt, ℕ_discrete}
-use native.Mathlib.Nat.{div-eq_of_lt}
-use borrow.Author.Tests.{lt-leb}
-use lib.Bits.{bit_and, bit_or, and_step, or_step, and_shr, or_shr, or_mod, or_add_and, and_le_l, and_le_r, shifted_even}
-use lib.Pow.{shl-shr, split, high, ones_split, ones_lt}
+use Rattle.std.proofs.Common.{◌≡◌, ℕ, zero, suc, ◌+◌, ◌-◌, ◌*◌, ◌/◌, ◌%◌, ◌^◌, ◌<◌, ◌≤◌, min, max, Bool, not, ◌&&◌, ◌||◌, eqb, leb, refl, ap, ◌∙◌, lt_of_le_of_lt, mod-lt, one-mul, one-add, arith, pow_pos, shl_exact, shr_lt, eq-eqb, ne_eqb, le-leb}
+use native.Mathlib.Decide.{dec_le, ℕ_discrete}
+use lib.Bits.{bit_and, bit_or, or_add_and, and_le_l, and_le_r}
+use lib.Pow.{split}
+use Rattle.std.specs.Int.{bit_at}
+use Rattle.std.proofs.lemmas.Nat.Bits.{bit_at-lt, bit_at_or, bit_at_and, bit_at-pow_same, bit_at-pow_other, bit_at_mask_inside, bit_at_mask_below, bit_at_ones, bit_at_ones_above, ones_shl, ones_shr}
+use Rattle.std.proofs.lemmas.Bool.{lt-leb}
 use Rattle.memory.specs.Page.{has_bit}
 use Rattle.directory.specs.Drop.{some_below}
 
 -- ---- bit by bit
 
-digits-or : (x y : ℕ) → x < 2 → y < 2 → eqb (max x y) 1 ≡ (eqb x 1 || eqb y 1)
-digits-or zero zero h k = refl
-digits-or zero (suc zero) h k = refl
-digits-or zero (suc (suc y)) h k = absurd (omega arith)
-digits-or (suc zero) zero h k = refl
-digits-or (suc zero) (suc zero) h k = refl
-digits-or (suc zero) (suc (suc y)) h k = absurd (omega arith)
-digits-or (suc (suc x)) y h k = absurd (omega arith)
-
-digits-and : (x y : ℕ) → x < 2 → y < 2 → eqb (min x y) 1 ≡ (eqb x 1 && eqb y 1)
-digits-and zero zero h k = refl
-digits-and zero (suc zero) h k = refl
-digits-and zero (suc (suc y)) h k = absurd (omega arith)
-digits-and (suc zero) zero h k = refl
-digits-and (suc zero) (suc zero) h k = refl
-digits-and (suc zero) (suc (suc y)) h k = absurd (omega arith)
-digits-and (suc (suc x)) y h k = absurd (omega arith)
-
-or-odd : (a b : ℕ) → bit_or a b % 2 ≡ max (a % 2) (b % 2)
-or-odd a b = omega (arith, or_step a b)
-
-and-odd : (a b : ℕ) → bit_and a b % 2 ≡ min (a % 2) (b % 2)
-and-odd a b = omega (arith, and_step a b)
+digit : (x y : ℕ) → x < 2 → y < 2 → (eqb (max x y) 1 ≡ (eqb x 1 || eqb y 1)) × (eqb (min x y) 1 ≡ (eqb x 1 && eqb y 1))
+digit zero zero h k = (refl, refl)
+digit zero (suc zero) h k = (refl, refl)
+digit zero (suc (suc y)) h k = absurd (omega arith)
+digit (suc zero) zero h k = (refl, refl)
+digit (suc zero) (suc zero) h k = (refl, refl)
+digit (suc zero) (suc (suc y)) h k = absurd (omega arith)
+digit (suc (suc x)) y h k = absurd (omega arith)
 
 pub bit-or : (k a b : ℕ) → has_bit k (bit_or a b) ≡ (has_bit k a || has_bit k b)
-bit-or k a b =
-    ap (λ (n : ℕ). eqb (n % 2) 1) (or_shr a b k) ∙ ap (λ (n : ℕ). eqb n 1) (or-odd (a / 2 ^ k) (b / 2 ^ k))
-    ∙ digits-or (a / 2 ^ k % 2) (b / 2 ^ k % 2) (omega arith) (omega arith)
+bit-or k a b = ap (λ (n : ℕ). eqb n 1) (bit_at_or a b k) ∙ (digit (bit_at a k) (bit_at b k) (bit_at-lt a k) (bit_at-lt b k)).0
 
 pub bit-and : (k a b : ℕ) → has_bit k (bit_and a b) ≡ (has_bit k a && has_bit k b)
-bit-and k a b =
-    ap (λ (n : ℕ). eqb (n % 2) 1) (and_shr a b k) ∙ ap (λ (n : ℕ). eqb n 1) (and-odd (a / 2 ^ k) (b / 2 ^ k))
-    ∙ digits-and (a / 2 ^ k % 2) (b / 2 ^ k % 2) (omega arith) (omega arith)
-
--- ---- a run of ones
-
--- c ones from place f on, the last at `last`
-pub bit-ones : (f c last k : ℕ) → f + c ≡ last + 1 → has_bit k ((2 ^ c - 1) * 2 ^ f) ≡ (leb f k && leb k last)
-bit-ones f c last k e = by (dec_lt k f) (dec_le k last)
-  where
-    below : (m : ℕ) → f ≡ suc m + k → (2 ^ c - 1) * 2 ^ f / 2 ^ k % 2 ≡ 0
-    below m p =
-        let q : (2 ^ c - 1) * 2 ^ f ≡ (2 ^ c - 1) * 2 ^ suc m * 2 ^ k =
-        rw (p, pow-add 2 (suc m) k) (sym (mul_assoc (2 ^ c - 1) (2 ^ suc m) (2 ^ k))) in
-        rw (q, shl-shr ((2 ^ c - 1) * 2 ^ suc m) k) (shifted_even (2 ^ c - 1) m)
-
-    past : (j : ℕ) → k ≡ f + j → (2 ^ c - 1) * 2 ^ f / 2 ^ k ≡ (2 ^ c - 1) / 2 ^ j
-    past j p = rw p (sym (shr-shr ((2 ^ c - 1) * 2 ^ f) f j) ∙ ap (λ (n : ℕ). n / 2 ^ j) (shl-shr (2 ^ c - 1) f))
-
-    inside : (m j : ℕ) → c ≡ suc m + j → (2 ^ c - 1) / 2 ^ j % 2 ≡ 1
-    inside m j p =
-        let q : (2 ^ c - 1) / 2 ^ j ≡ 2 ^ suc m - 1 =
-        rw (p, ones_split (suc m) j) (high (2 ^ suc m - 1) j (ones_lt j)) in
-        rw (q, pow-suc 2 m) (omega (arith, pow_pos m))
-
-    outside : (j : ℕ) → c ≤ j → (2 ^ c - 1) / 2 ^ j ≡ 0
-    outside j h = div-eq_of_lt (lt_of_lt_of_le (ones_lt c) (pow_mono h))
-
-    by : Dec (k < f) → Dec (k ≤ last) → eqb ((2 ^ c - 1) * 2 ^ f / 2 ^ k % 2) 1 ≡ (leb f k && leb k last)
-    by (yes h) d = rw (lt-leb f k h, below (f - k - 1) (omega arith))
-    by (no h) (yes l) =
-        rw (
-          le-leb f k (omega (arith, h)),
-          le-leb k last l,
-          past (k - f) (omega (arith, h)),
-          inside (c - (k - f) - 1) (k - f) (omega (arith, h)),
-        )
-    by (no h) (no l) =
-        rw (
-          le-leb f k (omega (arith, h)),
-          lt-leb k last (omega (arith, l)),
-          past (k - f) (omega (arith, h)),
-          outside (k - f) (omega (arith, h, l)),
-        )
+bit-and k a b = ap (λ (n : ℕ). eqb n 1) (bit_at_and a b k) ∙ (digit (bit_at a k) (bit_at b k) (bit_at-lt a k) (bit_at-lt b k)).1
 
 pub bit-pow : (j b : ℕ) → has_bit j (2 ^ b) ≡ eqb j b
-bit-pow j b = rw one at (bit-ones b 1 b j refl) ∙ same (ℕ_discrete j b)
+bit-pow j b = by (ℕ_discrete j b)
   where
-    one : (2 ^ 1 - 1) * 2 ^ b ≡ 2 ^ b
-    one = one-mul (2 ^ b)
+    by : Dec (j ≡ b) → has_bit j (2 ^ b) ≡ eqb j b
+    by (yes e) = rw (e, eq-eqb b b refl) (eq-eqb _ 1 (bit_at-pow_same b))
+    by (no e) = rw (ne_eqb j b e) (ne_eqb _ 1 (λ z. omega (arith, bit_at-pow_other b j e)))
 
-    same : Dec (j ≡ b) → (leb b j && leb j b) ≡ eqb j b
-    same (yes e) = rw (eq-eqb j b e, le-leb b j (omega arith), le-leb j b (omega arith))
-    same (no e) = rw (ne_eqb j b e) (go (dec_le b j))
-      where
-        go : Dec (b ≤ j) → (leb b j && leb j b) ≡ false
-        go (yes h) = rw (le-leb b j h, lt-leb j b (omega (arith, e)))
-        go (no h) = rw (lt-leb b j (omega (arith, h)))
+-- ---- the ones from place f to place l, as the code makes them
+
+high_ones : (f k : ℕ) → k < 64 → has_bit k (2 ^ 64 - 2 ^ f) ≡ leb f k
+high_ones f k h = by (dec_le f k)
+  where
+    by : Dec (f ≤ k) → has_bit k (2 ^ 64 - 2 ^ f) ≡ leb f k
+    by (yes p) = rw (le-leb f k p) (eq-eqb _ 1 (bit_at_mask_inside f 64 k p h))
+    by (no p) = rw (lt-leb f k (omega (arith, p))) (ne_eqb _ 1 (λ z. omega (arith, bit_at_mask_below f 64 k (omega (arith, p)))))
+
+low_ones : (l k : ℕ) → k < 64 → has_bit k (2 ^ (64 - (63 - l)) - 1) ≡ leb k l
+low_ones l k h = by (dec_le k l)
+  where
+    by : Dec (k ≤ l) → has_bit k (2 ^ (64 - (63 - l)) - 1) ≡ leb k l
+    by (yes p) = rw (le-leb k l p) (eq-eqb _ 1 (bit_at_ones (64 - (63 - l)) k (omega (arith, p))))
+    by (no p) = rw (lt-leb k l (omega (arith, p))) (ne_eqb _ 1 (λ z. omega (arith, bit_at_ones_above (64 - (63 - l)) k (omega (arith, p)))))
+
+pub ones_between : (f l k : ℕ) → f < 64 → k < 64
+    → has_bit k (bit_and ((2 ^ 64 - 1) * 2 ^ f % 2 ^ 64) ((2 ^ 64 - 1) / 2 ^ (63 - l))) ≡ (leb f k && leb k l)
+ones_between f l k a c =
+    rw (ones_shl 64 f (omega arith), ones_shr 64 (63 - l) (omega arith), bit-and k (2 ^ 64 - 2 ^ f) (2 ^ (64 - (63 - l)) - 1), high_ones f k c, low_ones l k c)
 
 -- ---- some bit is set
 
@@ -129,17 +84,8 @@ some-common w a b h =
     some-bit w (bit_and a b) (lt_of_le_of_lt (and_le_l a b) h)
     ∙ some_below-ext w (λ k. has_bit k (bit_and a b)) (λ k. has_bit k a && has_bit k b) (λ k l. bit-and k a b)
 
--- ---- shifts that lose nothing
-
 pub one_shl : (k : ℕ) → k < 64 → (1 * 2 ^ k) % 2 ^ 64 ≡ 2 ^ k
 one_shl k h = shl_exact 1 k 64 (omega arith) (omega arith) ∙ one-mul (2 ^ k)
-
-pub one-shl-pos : (k : ℕ) → k < 64 → 1 ≤ (1 * 2 ^ k) % 2 ^ 64
-one-shl-pos k h = rw (one_shl k h) (pow_pos k)
-
--- the code's run of ones
-pub ones_shl : (c f : ℕ) → c < 64 → c + f ≤ 64 → ((1 * 2 ^ c) % 2 ^ 64 - 1) * 2 ^ f % 2 ^ 64 ≡ (2 ^ c - 1) * 2 ^ f
-ones_shl c f h k = rw (one_shl c h) (shl_exact c f 64 (ones_lt c) k)
 
 -- ---- an or is no less than its parts
 
@@ -149,20 +95,12 @@ or_left a b = omega (arith, or_add_and a b, and_le_r a b)
 pub or_right : (a b : ℕ) → b ≤ bit_or a b
 or_right a b = omega (arith, or_add_and a b, and_le_l a b)
 
--- and ends in zeros only where both do
-pub or-even : (k a b : ℕ) → bit_or a b % 2 ^ k ≡ 0 → (a % 2 ^ k ≡ 0) × (b % 2 ^ k ≡ 0)
-or-even k a b e =
-    let q : bit_or (a % 2 ^ k) (b % 2 ^ k) ≡ 0 = sym (or_mod a b k) ∙ e in
-    (omega (arith, or_left (a % 2 ^ k) (b % 2 ^ k)), omega (arith, or_right (a % 2 ^ k) (b % 2 ^ k)))
-
--- eight facts as one
-pub eight : (P : ℕ → Type 0) → P 0 → P 1 → P 2 → P 3 → P 4 → P 5 → P 6 → P 7 → (k : ℕ) → k < 8 → P k
-eight P a b c e f g h j zero l = a
-eight P a b c e f g h j (suc zero) l = b
-eight P a b c e f g h j (suc (suc zero)) l = c
-eight P a b c e f g h j (suc (suc (suc zero))) l = e
-eight P a b c e f g h j (suc (suc (suc (suc zero)))) l = f
-eight P a b c e f g h j (suc (suc (suc (suc (suc zero))))) l = g
-eight P a b c e f g h j (suc (suc (suc (suc (suc (suc zero)))))) l = h
-eight P a b c e f g h j (suc (suc (suc (suc (suc (suc (suc zero))))))) l = j
-eight P a b c e f g h j (suc (suc (suc (suc (suc (suc (suc (suc k)))))))) l = absurd (omega arith)
+-- and 0 exactly where both are
+pub or-free : (a b : ℕ) → eqb (bit_or a b) 0 ≡ (eqb a 0 && eqb b 0)
+or-free a b = by (ℕ_discrete a 0) (ℕ_discrete b 0)
+  where
+    by : Dec (a ≡ 0) → Dec (b ≡ 0) → eqb (bit_or a b) 0 ≡ (eqb a 0 && eqb b 0)
+    by (yes p) (yes q) = rw (eq-eqb (bit_or a b) 0 (omega (arith, or_add_and a b)), eq-eqb a 0 p, eq-eqb b 0 q)
+    by (yes p) (no q) =
+        rw (ne_eqb (bit_or a b) 0 (λ z. q (omega (arith, or_right a b))), eq-eqb a 0 p, ne_eqb b 0 q)
+    by (no p) q = rw (ne_eqb (bit_or a b) 0 (λ z. p (omega (arith, or_left a b))), ne_eqb a 0 p)

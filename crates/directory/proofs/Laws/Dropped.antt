@@ -1,10 +1,13 @@
 -- Dropping keeps a directory fit, and a lookup afterwards finds exactly the blocks that do not go. Assumes nothing.
-use Rattle.std.proofs.Common.{◌≡◌, ℕ, suc, Bool, true, false, cond, not, ◌&&◌, ◌||◌, ltb, List, [], ◌∷◌, ◌++◌, length, get_or, sym, refl, ap, ◌∙◌, arith, eq-eqb, ne_eqb}
+use Rattle.std.proofs.Common.{◌≡◌, ℕ, suc, Bool, true, false, cond, not, ◌&&◌, ◌||◌, ltb, List, [], ◌∷◌, ◌++◌, length, get_or, sym, refl, ap, ◌∙◌, add-one, arith, eq-eqb, ne_eqb}
 use native.Mathlib.Decide.{ℕ_discrete}
-use Rattle.directory.specs.declared.Found.{Found}
+use Rattle.std.proofs.Math.Bool.{or-false}
+use Rattle.std.proofs.lemmas.Bool.{and_right}
+use Rattle.std.proofs.lemmas.List.{length_push}
+use Rattle.std.proofs.lemmas.List.Recursion.{or_push, found_push_other}
 use Rattle.directory.specs.Block.{start_of, len_of, fits, free, holds}
 use Rattle.directory.specs.Fit.{any, sound, fit}
-use Rattle.directory.specs.Calls.{word_at, refused_lookup, found_of, lookup}
+use Rattle.directory.specs.Calls.{Found, word_at, refused_lookup, found_of, lookup}
 use Rattle.directory.specs.Drop.{goes, gone, kept, dropped}
 use Rattle.directory.proofs.Laws.Pages.{gone-none}
 use Rattle.directory.proofs.Laws.Sound.{holds-not-free, holds-start, holds-free, any_none, SoundCons}
@@ -22,14 +25,9 @@ kept_free t = refl
 
 -- ---- a free place behind the others
 
-length_more : (d : List ℕ) → length (d ++ (0 ∷ [])) ≡ suc (length d)
-length_more [] = refl
-length_more (w ∷ d) = ap suc (length_more d)
-
 any-more : (a : ℕ) (d : List ℕ) → any (holds a) (d ++ (0 ∷ [])) ≡ any (holds a) d
 unfolding any
-any-more a [] = rw (holds-free a)
-any-more a (w ∷ d) = rw (any-more a d)
+any-more a d = or_push (any (holds a)) (holds a) refl (λ w d. refl) d 0 ∙ rw (holds-free a) (or-false (any (holds a) d))
 
 sound_more : (d : List ℕ) → sound (d ++ (0 ∷ [])) ≡ sound d
 unfolding sound
@@ -38,8 +36,7 @@ sound_more (w ∷ d) = rw (any-more (start_of w) d, sound_more d)
 
 word_more : (a : ℕ) (d : List ℕ) → word_at a (d ++ (0 ∷ [])) ≡ word_at a d
 unfolding word_at
-word_more a [] = rw (holds-free a)
-word_more a (w ∷ d) = rw (word_more a d)
+word_more a d = found_push_other (word_at a) (holds a) (λ w. w) 0 refl (λ w d. refl) d 0 (holds-free a)
 
 -- ---- all places
 
@@ -49,7 +46,7 @@ dropped-length t [] = refl
 dropped-length t (w ∷ d) = go (gone t w) (dropped-length t d)
   where
     go : (g : Bool) → length (dropped t d) ≡ length d → length (cond g (dropped t d ++ (0 ∷ [])) (w ∷ dropped t d)) ≡ suc (length d)
-    go true ih = length_more (dropped t d) ∙ ap suc ih
+    go true ih = length_push (dropped t d) 0 ∙ add-one (length (dropped t d)) ∙ ap suc ih
     go false ih = ap suc ih
 
 -- where no block goes the directory is as it was
@@ -182,8 +179,4 @@ kept_goes t w g = by (ℕ_discrete w 0)
 
 pub kept-stays : (t w : ℕ) → goes t (start_of w) (len_of w) ≡ false → kept t w ≡ w
 unfolding kept gone
-kept-stays t w g = rw g (go (not (free w)))
-  where
-    go : (b : Bool) → cond (b && false) 0 w ≡ w
-    go true = refl
-    go false = refl
+kept-stays t w g = rw (g, and_right (not (free w)) false refl)

@@ -2,12 +2,13 @@
 -- stays one that the pass over neighbours shows fit. Assumes nothing.
 use Rattle.std.proofs.Common.{◌≡◌, ℕ, suc, ◌^◌, ◌<◌, ◌≤◌, min, max, Bool, true, false, cond, ◌&&◌, ◌||◌, eqb, List, [], ◌∷◌, ◌++◌, get_or, set, sym, refl, ◌∙◌, arith, lt-ltb, eq-eqb, ne_eqb, eqb-true}
 use native.Mathlib.Decide.{dec_le, ℕ_discrete}
+use Rattle.std.proofs.lemmas.Bool.{and_parts, or_parts}
 use Rattle.directory.specs.Block.{start_of, len_of, word_of, fits, free, holds}
 use Rattle.directory.specs.Fit.{any, first}
 use Rattle.directory.specs.Ordered.{all_free, rises, ordered}
 use Rattle.directory.specs.Calls.{register_refusal, put, with_block, registered}
 use Rattle.directory.specs.Drop.{gone, dropped}
-use Rattle.directory.proofs.Laws.Pages.{and_0, and-1, or-0, or-1, fits-says}
+use Rattle.directory.proofs.Laws.Pages.{fits-says}
 use Rattle.directory.proofs.Laws.Sound.{holds-not-free, holds-start, holds_of}
 use Rattle.directory.proofs.Laws.Ordered.{free-none, rises-says, ordered-above}
 use Rattle.directory.proofs.Laws.Registered.{accepted, word_back}
@@ -26,7 +27,7 @@ in_order s w d e = by (ℕ_discrete w 0)
     by (yes z) = ends z (rw (eq-eqb w 0 z) at e)
     by (no n) =
         let t : (rises s w && ordered (start_of w) d) ≡ true = rw (ne_eqb w 0 n) at e in
-        goes_on n (and_0 (rises s w) _ t) (and-1 (rises s w) _ t)
+        goes_on n ((and_parts (rises s w) _ t).0) ((and_parts (rises s w) _ t).1)
 
 order-in : (s w : ℕ) (d : List ℕ) → InOrder s w d → ordered s (w ∷ d) ≡ true
 unfolding ordered
@@ -52,12 +53,12 @@ frees : (s : ℕ) (d : List ℕ) → all_free d ≡ true → ordered s d ≡ tru
 unfolding ordered all_free
 frees s [] e = refl
 frees s (w ∷ d) e =
-    order-in s w d (ends (eqb-true w 0 (and_0 (free w) (all_free d) e)) (and-1 (free w) (all_free d) e))
+    order-in s w d (ends (eqb-true w 0 ((and_parts (free w) (all_free d) e).0)) ((and_parts (free w) (all_free d) e).1))
 
 one-more-free : (d : List ℕ) → all_free d ≡ true → all_free (d ++ (0 ∷ [])) ≡ true
 unfolding all_free
 one-more-free [] e = refl
-one-more-free (w ∷ d) e = rw (and_0 (free w) (all_free d) e) (one-more-free d (and-1 (free w) (all_free d) e))
+one-more-free (w ∷ d) e = rw ((and_parts (free w) (all_free d) e).0) (one-more-free d ((and_parts (free w) (all_free d) e).1))
 
 one_more : (s : ℕ) (d : List ℕ) → ordered s d ≡ true → ordered s (d ++ (0 ∷ [])) ≡ true
 unfolding ordered all_free
@@ -74,8 +75,8 @@ drop-free : (t : ℕ) (d : List ℕ) → all_free d ≡ true → all_free (dropp
 unfolding all_free dropped
 drop-free t [] e = refl
 drop-free t (w ∷ d) e =
-    let z : w ≡ 0 = eqb-true w 0 (and_0 (free w) (all_free d) e) in
-    rw (z, gone-free t) (drop-free t d (and-1 (free w) (all_free d) e))
+    let z : w ≡ 0 = eqb-true w 0 ((and_parts (free w) (all_free d) e).0) in
+    rw (z, gone-free t) (drop-free t d ((and_parts (free w) (all_free d) e).1))
 
 pub dropped-ordered : (t s : ℕ) (d : List ℕ) → ordered s d ≡ true → ordered s (dropped t d) ≡ true
 unfolding dropped
@@ -107,8 +108,8 @@ put-ordered : (w s : ℕ) (d : List ℕ) → w < 2 ^ 64 → Words d → (w ≡ 0
 unfolding put any
 put-ordered w s [] a b n r h e = e
 put-ordered w s (x ∷ d) a b n r h e =
-    by (λ v k. put-ordered v k d) (in_order s x d e) (or-0 (holds (start_of w) x) (any (holds (start_of w)) d) h)
-    (or-1 (holds (start_of w) x) (any (holds (start_of w)) d) h)
+    by (λ v k. put-ordered v k d) (in_order s x d e) ((or_parts (holds (start_of w) x) (any (holds (start_of w)) d) h).0)
+    ((or_parts (holds (start_of w) x) (any (holds (start_of w)) d) h).1)
   where
     by : ((v k : ℕ) → v < 2 ^ 64 → Words d → (v ≡ 0 → ⊥) → rises k v ≡ true → any (holds (start_of v)) d ≡ false → ordered k d ≡ true
         → ordered k (put v d) ≡ true)

@@ -4,6 +4,7 @@ use mathlib.Core.Bool.{or_comm}
 use native.Mathlib.Decide.{ℕ_discrete}
 use lib.Bits.{bit_or}
 use lib.ListN.{length-replicate}
+use Rattle.std.proofs.Math.Bool.{and-true}
 use Rattle.memory.specs.Page.{has_bit}
 use Rattle.directory.specs.Block.{start_of, len_of, fits, free, holds}
 use Rattle.directory.specs.Fit.{any, sound}
@@ -141,11 +142,7 @@ all-clear n (w ∷ d) = rw (none-marked n (start_of w), all-clear n d) (go (free
 
 pub sound_by-start : (n : ℕ) (d : List ℕ) → n ≡ 1024 → sound_by (replicate n 0) d ≡ sound d
 sound_by-start n d e =
-    sound_by-is d (replicate n 0) (length-replicate n 0 ∙ e) ∙ ap (λ (b : Bool). sound d && b) (all-clear n d) ∙ last (sound d)
-  where
-    last : (b : Bool) → (b && true) ≡ b
-    last true = refl
-    last false = refl
+    sound_by-is d (replicate n 0) (length-replicate n 0 ∙ e) ∙ ap (λ (b : Bool). sound d && b) (all-clear n d) ∙ and-true (sound d)
 
 -- ---- the pass after i places: what it finds in the rest is what the whole is
 

@@ -1,31 +1,14 @@
--- The pages under a block, as one number. Assumes nothing.
-use Rattle.std.proofs.Common.{◌≡◌, ℕ, zero, suc, ◌+◌, ◌-◌, ◌/◌, ◌%◌, ◌^◌, ◌<◌, ◌≤◌, Bool, true, false, not, ◌&&◌, ◌||◌, eqb, leb, List, length, get_or, sym, refl, ap, ◌∙◌, add-zero, div-one, arith, pow_mono, shl_lt, shr-shr, eq-eqb, ne_eqb, le-leb, leb-true}
+-- The pages under a block, as the bits of one number. Assumes nothing.
+use Rattle.std.proofs.Common.{◌≡◌, ℕ, zero, suc, ◌+◌, ◌-◌, ◌/◌, ◌%◌, ◌^◌, ◌<◌, ◌≤◌, Bool, true, false, not, ◌&&◌, eqb, leb, sym, refl, ap, ◌∙◌, div-one, arith, shr-shr, eq-eqb, ne_eqb, le-leb, leb-true}
 use native.Mathlib.Decide.{dec_le, ℕ_discrete}
 use native.Mathlib.Nat.{zero-div}
-use borrow.Author.Tests.{lt-leb}
-use lib.Bits.{bit_and, bit_or}
-use lib.Pow.{ones_lt}
+use lib.Bits.{bit_and}
 use Rattle.memory.specs.Page.{has_bit}
+use Rattle.std.proofs.lemmas.Bool.{lt-leb, and_parts}
 use Rattle.directory.specs.Block.{start_of, len_of, fits, free, under}
-use Rattle.directory.specs.Drop.{some_below, goes, gone, page_count, pages_under}
-use Rattle.directory.specs.Eights.{seen_from, Quiet}
-use Rattle.directory.proofs.Laws.Bits.{bit-ones, some-common, some_below-ext, or-even, eight}
-
-pub and_0 : (a b : Bool) → (a && b) ≡ true → a ≡ true
-and_0 true b e = refl
-and_0 false b e = e
-
-pub and-1 : (a b : Bool) → (a && b) ≡ true → b ≡ true
-and-1 true b e = e
-and-1 false b e = let z : ◌≡◌ {A = ℕ} 0 1 = cc in absurd (omega arith)
-
-pub or-0 : (a b : Bool) → (a || b) ≡ false → a ≡ false
-or-0 true b e = e
-or-0 false b e = refl
-
-pub or-1 : (a b : Bool) → (a || b) ≡ false → b ≡ false
-or-1 true b e = let z : ◌≡◌ {A = ℕ} 0 1 = cc in absurd (omega arith)
-or-1 false b e = e
+use Rattle.directory.specs.Drop.{some_below, goes, gone}
+use Rattle.directory.specs.Eights.{seen_from}
+use Rattle.directory.proofs.Laws.Bits.{some-common, some_below-ext}
 
 pub record Fits (start len : ℕ) : Type 0 where
   pub from : 0x6000 ≤ start
@@ -36,13 +19,13 @@ pub record Fits (start len : ℕ) : Type 0 where
 pub fits-says : (start len : ℕ) → fits start len ≡ true → Fits start len
 unfolding fits
 fits-says start len e =
-    let e1 = and-1 (leb 0x6000 start) _ e in
-    let e2 = and-1 (leb 1 len) _ e1 in
+    let e1 = (and_parts (leb 0x6000 start) _ e).1 in
+    let e2 = (and_parts (leb 1 len) _ e1).1 in
     record {
-      from = leb-true _ _ (and_0 (leb 0x6000 start) _ e);
-      some = leb-true _ _ (and_0 (leb 1 len) _ e1);
-      most = leb-true _ _ (and_0 (leb len 4096) _ e2);
-      to = leb-true _ _ (and-1 (leb len 4096) _ e2);
+      from = leb-true _ _ ((and_parts (leb 0x6000 start) _ e).0);
+      some = leb-true _ _ ((and_parts (leb 1 len) _ e1).0);
+      most = leb-true _ _ ((and_parts (leb len 4096) _ e2).0);
+      to = leb-true _ _ ((and_parts (leb len 4096) _ e2).1);
     }
 
 pub says-fits : (start len : ℕ) → Fits start len → fits start len ≡ true
@@ -50,30 +33,14 @@ unfolding fits
 says-fits start len f =
     rw (le-leb 0x6000 start f.from, le-leb 1 len f.some, le-leb len 4096 f.most, le-leb (start + len) 0x10000 f.to)
 
--- has_bit k of the mask is set exactly where CPU page k is under the block
-pub bit-pages : (start len : ℕ) → Fits start len → (k : ℕ) → has_bit k (pages_under start len) ≡ under start len k
-unfolding pages_under under
-bit-pages start len f k = bit-ones (start / 1024) (page_count start len) ((start + len - 1) / 1024) k (omega arith)
-
--- the mask has 64 bits
-pub pages-lt : (start len : ℕ) → Fits start len → pages_under start len < 2 ^ 64
-unfolding pages_under
-pages-lt start len f =
-    let n = page_count start len in
-    let a = start / 1024 in
-    lt_of (shl_lt {a = 2 ^ n - 1} n a (ones_lt n)) (pow_mono {i = n + a} {j = 64} (omega arith))
-  where
-    lt_of : {x y z : ℕ} → x < y → y ≤ z → x < z
-    lt_of p q = omega arith
-
--- a block goes exactly where its mask and the touched pages have a bit in common
-pub goes-mask : (touched start len : ℕ) → Fits start len
-    → goes touched start len ≡ not (eqb (bit_and (pages_under start len) touched) 0)
+-- a block goes exactly where a number with its pages' bits and the touched pages have a bit in common
+pub goes-mask : (touched start len m : ℕ) → m < 2 ^ 64 → ((k : ℕ) → k < 64 → has_bit k m ≡ under start len k)
+    → goes touched start len ≡ not (eqb (bit_and m touched) 0)
 unfolding goes
-goes-mask touched start len f =
-    sym (some-common 64 (pages_under start len) touched (pages-lt start len f)
-    ∙ some_below-ext 64 (λ k. has_bit k (pages_under start len) && has_bit k touched) (λ k. under start len k && has_bit k touched)
-    (λ k l. ap (λ (b : Bool). b && has_bit k touched) (bit-pages start len f k)))
+goes-mask touched start len m h f =
+    sym (some-common 64 m touched h
+    ∙ some_below-ext 64 (λ k. has_bit k m && has_bit k touched) (λ k. under start len k && has_bit k touched)
+    (λ k l. ap (λ (b : Bool). b && has_bit k touched) (f k l)))
 
 -- ---- a block that cannot go: none of the five pages from its first is touched
 
@@ -117,30 +84,3 @@ gone-not touched w f e = by (ℕ_discrete w 0)
 -- and no page touched
 pub gone-none : (w : ℕ) → ((w ≡ 0 → ⊥) → fits (start_of w) (len_of w) ≡ true) → gone 0 w ≡ false
 gone-none w f = gone-not 0 w f (rw (zero-div (2 ^ (start_of w / 1024))))
-
--- the code's test of eight places
-quiet-four : (x a b c e : ℕ) → bit_or (seen_from x a) (bit_or (seen_from x b) (bit_or (seen_from x c) (seen_from x e))) % 32 ≡ 0
-    → (seen_from x a % 32 ≡ 0) × (seen_from x b % 32 ≡ 0) × (seen_from x c % 32 ≡ 0) × (seen_from x e % 32 ≡ 0)
-quiet-four x a b c e q =
-    let q1 = or-even 5 (seen_from x a) (bit_or (seen_from x b) (bit_or (seen_from x c) (seen_from x e))) q in
-    let q2 = or-even 5 (seen_from x b) (bit_or (seen_from x c) (seen_from x e)) q1.1 in
-    let q3 = or-even 5 (seen_from x c) (seen_from x e) q2.1 in
-    (q1.0, q2.0, q3.0, q3.1)
-
-abbrev seen_four : ℕ → ℕ → ℕ → ℕ → ℕ → ℕ
-seen_four x a b c e = bit_or (seen_from x a) (bit_or (seen_from x b) (bit_or (seen_from x c) (seen_from x e)))
-
-pub quiet_of : (x : ℕ) (d : List ℕ) (i : ℕ) → i + 8 ≤ length d
-    → bit_or (seen_four x (get_or d i 0) (get_or d (i + 1) 0) (get_or d (i + 2) 0) (get_or d (i + 3) 0))
-    (seen_four x (get_or d (i + 4) 0) (get_or d (i + 5) 0) (get_or d (i + 6) 0) (get_or d (i + 7) 0)) % 32 ≡ 0
-    → Quiet x d i
-quiet_of x d i h q =
-    let both = or-even 5 (seen_four x (get_or d i 0) (get_or d (i + 1) 0) (get_or d (i + 2) 0) (get_or d (i + 3) 0))
-    (seen_four x (get_or d (i + 4) 0) (get_or d (i + 5) 0) (get_or d (i + 6) 0) (get_or d (i + 7) 0)) q in
-    let low = quiet-four x (get_or d i 0) (get_or d (i + 1) 0) (get_or d (i + 2) 0) (get_or d (i + 3) 0) both.0 in
-    let high = quiet-four x (get_or d (i + 4) 0) (get_or d (i + 5) 0) (get_or d (i + 6) 0) (get_or d (i + 7) 0) both.1 in
-    record {
-      within = h;
-      none = eight (λ k. seen_from x (get_or d (i + k) 0) % 32 ≡ 0) (rw add-zero low.0) low.1 low.2 low.3 high.0
-          high.1 high.2 high.3;
-    }

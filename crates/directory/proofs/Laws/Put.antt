@@ -1,10 +1,10 @@
 -- A block that is put where its start belongs: the pass that does it, and what is held afterwards. Assumes nothing.
 use Rattle.std.proofs.Common.{◌≡◌, ℕ, zero, suc, ◌+◌, ◌<◌, ◌≤◌, min, max, Bool, true, false, cond, List, [], ◌∷◌, length, get_or, set, sym, refl, ap, ◌∙◌, add-one, arith, length-set, eq-eqb, ne_eqb}
 use native.Mathlib.Decide.{dec_le, ℕ_discrete}
+use Rattle.std.proofs.lemmas.Bool.{or_parts}
 use Rattle.directory.specs.Block.{start_of, free, holds}
 use Rattle.directory.specs.Fit.{any, sound}
 use Rattle.directory.specs.Calls.{put, word_at}
-use Rattle.directory.proofs.Laws.Pages.{or-0, or-1}
 use Rattle.directory.proofs.Laws.Sound.{holds-start, holds_of, holds-other, holds-free, sound-cons, cons-sound}
 
 -- ---- the pass
@@ -87,10 +87,10 @@ any-put a c [] h e = refl
 any-put a c (x ∷ d) h e = by (λ y. any-put a y d) (ℕ_discrete x 0) (swap c x)
   where
     head : holds a x ≡ false
-    head = or-0 (holds a x) (any (holds a) d) e
+    head = (or_parts (holds a x) (any (holds a) d) e).0
 
     tail : any (holds a) d ≡ false
-    tail = or-1 (holds a x) (any (holds a) d) e
+    tail = (or_parts (holds a x) (any (holds a) d) e).1
 
     by : ((y : ℕ) → holds a y ≡ false → any (holds a) d ≡ false → any (holds a) (put y d) ≡ false) → Dec (x ≡ 0) → Swap c x
         → any (holds a) (cond (free x) (c ∷ d) (min c x ∷ put (max c x) d)) ≡ false
@@ -106,7 +106,7 @@ without c x d s =
     cons-sound c d (record {
       tail = (sound-cons x d k.tail).tail;
       first = k.first;
-      alone = λ m. or-1 (holds (start_of c) x) (any (holds (start_of c)) d) (k.alone m);
+      alone = λ m. (or_parts (holds (start_of c) x) (any (holds (start_of c)) d) (k.alone m)).1;
     })
 
 -- of two blocks in a directory, neither has the other's start
@@ -116,11 +116,11 @@ module _ (c x : ℕ) (d : List ℕ) (m : c ≡ 0 → ⊥) (n : x ≡ 0 → ⊥) 
 
   other : holds (start_of c) x ≡ false
   unfolding any
-  other = or-0 (holds (start_of c) x) (any (holds (start_of c)) d) alone
+  other = (or_parts (holds (start_of c) x) (any (holds (start_of c)) d) alone).0
 
   behind : any (holds (start_of c)) d ≡ false
   unfolding any
-  behind = or-1 (holds (start_of c) x) (any (holds (start_of c)) d) alone
+  behind = (or_parts (holds (start_of c) x) (any (holds (start_of c)) d) alone).1
 
   differ : start_of c ≡ start_of x → ⊥
   differ q =

@@ -1,6 +1,7 @@
 -- Registering keeps a directory fit, and what a lookup finds afterwards. Assumes nothing.
-use Rattle.std.proofs.Common.{◌≡◌, ℕ, zero, suc, ◌^◌, ◌<◌, ◌≤◌, Bool, true, false, cond, not, ◌||◌, eqb, ltb, List, [], ◌∷◌, length, get_or, set, sym, refl, ap, ◌∙◌, arith, length-set, get_or-set_other, get_or-set_same, ltb-false, eq-eqb, ne_eqb}
+use Rattle.std.proofs.Common.{◌≡◌, ℕ, zero, suc, ◌^◌, ◌<◌, ◌≤◌, Bool, true, false, cond, not, ◌||◌, eqb, ltb, List, [], ◌∷◌, length, get_or, set, sym, refl, ap, ◌∙◌, arith, length-set, get_or-set_other, get_or-set_same, ltb-false, le-ltb, eq-eqb, ne_eqb}
 use native.Mathlib.Decide.{ℕ_discrete}
+use Rattle.std.proofs.lemmas.List.Recursion.{found_set_other}
 use Rattle.directory.specs.Block.{start_of, len_of, number_of, word_of, fits, free, holds}
 use Rattle.directory.specs.Fit.{any, first, sound, fit}
 use Rattle.directory.specs.Calls.{register_refusal, put, with_block, registered, word_at, refused_lookup, found_of, lookup}
@@ -115,9 +116,7 @@ word_set (w ∷ d) (suc i) v h n only = go (holds (start_of v) w) refl (word_set
 
 word-set-other : (a : ℕ) (d : List ℕ) (i v : ℕ) → holds a v ≡ false → holds a (get_or d i 0) ≡ false → word_at a (set d i v) ≡ word_at a d
 unfolding word_at
-word-set-other a [] i v e f = refl
-word-set-other a (w ∷ d) zero v e f = rw (e, f)
-word-set-other a (w ∷ d) (suc i) v e f = rw (word-set-other a d i v e f)
+word-set-other a d i v e f = found_set_other (word_at a) (holds a) (λ w. w) 0 refl (λ w d. refl) d i v 0 f e
 
 -- ---- the word that is stored
 
@@ -231,7 +230,7 @@ module _ (d : List ℕ) (start len number : ℕ) (s : start < 2 ^ 16) (n : numbe
       by (yes e) =
           let c = accepted d start len r in
           let w = word_back start len number s c.block n in
-          rw (eq-eqb a start e, borrow.Author.Tests.le-ltb a 0x4800 (omega (arith, c.address)))
+          rw (eq-eqb a start e, le-ltb a 0x4800 (omega (arith, c.address)))
           (λ i. record {
             refusal = 0;
             held = ap not (ne_eqb (word_of start len number) 0 w.held) i;

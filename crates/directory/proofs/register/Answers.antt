@@ -1,60 +1,53 @@
 -- One case of the definition for each return.
-use Rattle.std.proofs.Common.{◌<◌, ◌≤◌, length, sym, ◌∙◌, arith}
-use borrow.Author.Tests.{not-true, not-false}
-use Rattle.directory.specs.Block.{free, holds}
-use Rattle.directory.specs.Fit.{first}
-use Rattle.directory.proofs.Laws.Pages.{fits-says}
-use Rattle.directory.proofs.Laws.Places.{found-any, found_none}
-use Rattle.directory.proofs.Laws.Refused.{gives-2, gives-8, gives-13, gives-again, gives-new, gives-14}
+use Rattle.std.proofs.Common.{◌≡◌, sym, ◌∙◌, rules}
+use Rattle.refusals.specs.Refusal.{number_of, refusal_of}
+use Rattle.directory.specs.Block.{holds}
+use Rattle.directory.proofs.Laws.Places.{position-some}
+use Rattle.directory.proofs.Laws.Refused.{ready, block_err, block_ok, full_err, full_ok, none_held}
+use Rattle.directory.proofs.Laws.Refused.{gives-err, gives-13, gives-again, gives-new, gives-14}
 use Rattle.directory.proofs.register.Goals as goal
 
-pub returns-then-not-fit : goal.returns-then-not-fit
-returns-then-not-fit c =
-    let both = gives-2 c.args.d.now c.args.start c.args.len c.args.number (sym c.fit.ensures ∙ not-true _ c.if-not-fit.true-raw) in
-    record { value = both.0; d_after = both.1 }
+pub returns-in_err-checked : goal.returns-in_err-checked
+returns-in_err-checked c =
+    let r : refusal_of c.from_residual.result ≡ number_of c.in_err-checked.field-0.0 = search rules in
+    let g = gives-err c.args.d.now c.args.start c.args.len c.args.number c.in_err-checked.field-0.0
+    (sym c.checked.ensures ∙ c.in_err-checked.was) in
+    record { value = r ∙ g.0; d_after = g.1 }
 
-pub returns-then-start-lt18432 : goal.returns-then-start-lt18432
-returns-then-start-lt18432 c =
-    let both = gives-8 c.args.d.now c.args.start c.args.len c.args.number
-    (sym c.fit.ensures ∙ not-false c.fit.result c.if-not-fit.false-raw) c.if-start-lt18432.true in
-    record { value = both.0; d_after = both.1 }
+pub returns-in_err-ok_or : goal.returns-in_err-ok_or
+returns-in_err-ok_or c =
+    let b = ready c.args.d.now c.args.start (sym c.checked.ensures ∙ c.in_ok-checked.was) in
+    let r : refusal_of c.from_residual-in_err-ok_or.result ≡ number_of c.in_err-ok_or.field-0.0 = search rules in
+    let k = block_err c.args.start c.args.len c.args.number c.in_err-ok_or.field-0.0
+    (rw c.registrable.ensures at (sym c.ok_or.ensures.value ∙ c.in_err-ok_or.was)) in
+    let g = gives-13 c.args.d.now c.args.start c.args.len c.args.number b.0 b.1 k.0 in
+    record { value = r ∙ k.1 ∙ g.0; d_after = g.1 }
 
-pub returns-then-not-fits : goal.returns-then-not-fits
-returns-then-not-fits c =
-    let both = gives-13 c.args.d.now c.args.start c.args.len c.args.number
-    (sym c.fit.ensures ∙ not-false c.fit.result c.if-not-fit.false-raw) c.if-start-lt18432.false
-    (sym c.fits.ensures ∙ not-true c.fits.result c.if-not-fits.true-raw) in
-    record { value = both.0; d_after = both.1 }
+pub returns-in-Some : goal.returns-in-Some
+returns-in-Some c =
+    let b = ready c.args.d.now c.args.start (sym c.checked.ensures ∙ c.in_ok-checked.was) in
+    let k = block_ok c.args.start c.args.len c.args.number c.in_ok-ok_or.field-0 (rw c.registrable.ensures at (sym c.ok_or.ensures.value ∙ c.in_ok-ok_or.was)) in
+    let p = position-some (holds c.args.start) c.args.d.now c.in-Some.place (sym c.place_of.ensures ∙ c.in-Some.is) in
+    let g = gives-again c.args.d.now c.args.start c.args.len c.args.number b.0 b.1 k.0 p.0 in
+    record { value = g.0; d_after = rw (c.word-word.ensures, k.1, ← p.1) g.1 }
 
-pub word_of-word-requires : goal.word_of-word-requires
-word_of-word-requires c =
-    omega (arith, fits-says c.args.start c.args.len (sym c.fits.ensures ∙ not-false c.fits.result c.if-not-fits.false-raw))
-
-pub returns-then-place-d : goal.returns-then-place-d
-returns-then-place-d c =
-    let p : first (holds c.args.start) c.args.d.now < length c.args.d.now = rw c.place_of-place.ensures at c.if-place-d.true in
-    let both = gives-again c.args.d.now c.args.start c.args.len c.args.number
-    (sym c.fit.ensures ∙ not-false c.fit.result c.if-not-fit.false-raw) c.if-start-lt18432.false
-    (sym c.fits.ensures ∙ not-false c.fits.result c.if-not-fits.false-raw)
-    (found-any (holds c.args.start) c.args.d.now p) in
-    record { value = both.0; d_after = rw (c.place_of-place.ensures, c.word_of-word.ensures) both.1 }
-
-pub returns-then-empty-d : goal.returns-then-empty-d
-returns-then-empty-d c =
-    let q : length c.args.d.now ≤ first (holds c.args.start) c.args.d.now = rw c.place_of-place.ensures at c.if-place-d.false in
-    let p : first free c.args.d.now < length c.args.d.now = rw c.free_place-empty.ensures at c.if-empty-d.true in
-    let both = gives-new c.args.d.now c.args.start c.args.len c.args.number
-    (sym c.fit.ensures ∙ not-false c.fit.result c.if-not-fit.false-raw) c.if-start-lt18432.false
-    (sym c.fits.ensures ∙ not-false c.fits.result c.if-not-fits.false-raw)
-    (found_none (holds c.args.start) c.args.d.now q) (found-any free c.args.d.now p) in
-    record { value = both.0; d_after = rw (c.put.ensures, c.word_of-word.ensures) both.1 }
+pub returns-in_err-ok_or-2 : goal.returns-in_err-ok_or-2
+returns-in_err-ok_or-2 c =
+    let b = ready c.args.d.now c.args.start (sym c.checked.ensures ∙ c.in_ok-checked.was) in
+    let k = block_ok c.args.start c.args.len c.args.number c.in_ok-ok_or.field-0 (rw c.registrable.ensures at (sym c.ok_or.ensures.value ∙ c.in_ok-ok_or.was)) in
+    let r : refusal_of c.from_residual-in_err-ok_or-2.result ≡ number_of c.in_err-ok_or-2.field-0.0 = search rules in
+    let n = none_held (holds c.args.start) c.args.d.now (λ i e. c.in_default.not-Some i (c.place_of.ensures ∙ e)) in
+    let f = full_err c.args.d.now c.in_err-ok_or-2.field-0.0
+    (rw c.free_place.ensures at (sym c.ok_or-2.ensures.value ∙ c.in_err-ok_or-2.was)) in
+    let g = gives-14 c.args.d.now c.args.start c.args.len c.args.number b.0 b.1 k.0 n f.0 in
+    record { value = r ∙ f.1 ∙ g.0; d_after = g.1 }
 
 pub returns : goal.returns
 returns c =
-    let q : length c.args.d.now ≤ first (holds c.args.start) c.args.d.now = rw c.place_of-place.ensures at c.if-place-d.false in
-    let p : length c.args.d.now ≤ first free c.args.d.now = rw c.free_place-empty.ensures at c.if-empty-d.false in
-    let both = gives-14 c.args.d.now c.args.start c.args.len c.args.number
-    (sym c.fit.ensures ∙ not-false c.fit.result c.if-not-fit.false-raw) c.if-start-lt18432.false
-    (sym c.fits.ensures ∙ not-false c.fits.result c.if-not-fits.false-raw)
-    (found_none (holds c.args.start) c.args.d.now q) (found_none free c.args.d.now p) in
-    record { value = both.0; d_after = both.1 }
+    let b = ready c.args.d.now c.args.start (sym c.checked.ensures ∙ c.in_ok-checked.was) in
+    let k = block_ok c.args.start c.args.len c.args.number c.in_ok-ok_or.field-0 (rw c.registrable.ensures at (sym c.ok_or.ensures.value ∙ c.in_ok-ok_or.was)) in
+    let n = none_held (holds c.args.start) c.args.d.now (λ i e. c.in_default.not-Some i (c.place_of.ensures ∙ e)) in
+    let f = full_ok c.args.d.now c.in_ok-ok_or-2.field-0
+    (rw c.free_place.ensures at (sym c.ok_or-2.ensures.value ∙ c.in_ok-ok_or-2.was)) in
+    let g = gives-new c.args.d.now c.args.start c.args.len c.args.number b.0 b.1 k.0 n f in
+    record { value = g.0; d_after = rw (c.put.ensures, c.word-word.ensures, k.1) g.1 }

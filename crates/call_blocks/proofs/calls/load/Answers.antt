@@ -1,9 +1,8 @@
 -- `load` meets its contract: another number of places, the load refused, and accepted.
 use Prim.Native.Nat.{ℕ}
-use mathlib.Core.Path.{◌≡◌, sym, ap, ◌∙◌}
+use mathlib.Core.Path.{sym, ap, ◌∙◌}
 use lib.ListN.{length, replicate}
 use Rattle.refusals.proofs.Numbers.{numbered, errs}
-use Rattle.call_refusals.specs.Refusals.{first_of, load_checks}
 use Rattle.call_load.specs.Cartridge.{Loaded}
 use Rattle.call_blocks.proofs.Laws.{load-unfit, load-refused, load-accepted, load-number}
 use Rattle.call_blocks.proofs.calls.load.Goals as goal

@@ -1,33 +1,23 @@
--- After i places the rest decides.
-use Rattle.std.proofs.Common.{sym, ◌∙◌, arith}
+-- The rest decides.
+use Rattle.std.proofs.Common.{◌≡◌, ◌∷◌, length, sym, ◌∙◌, rules}
 use Rattle.directory.specs.Drop.{gone}
-use Rattle.directory.proofs.Laws.Pages.{gone-not}
-use Rattle.directory.proofs.Laws.Places.{tested-none, tested-next, tested-here, tested-past, tested-all}
-use Rattle.directory.proofs.Laws.Sound.{sound-at}
+use Rattle.directory.proofs.Laws.Places.{any_end, any_here, any_next}
+use Rattle.directory.proofs.Laws.Sound.{sound-cons}
 use Rattle.directory.proofs.drops.some_goes.Goals as goal
 
-pub loop-i-init : goal.loop-i-init
-loop-i-init c = tested-none (gone c.args.touched) c.args.d.now
-
-pub overflow_add-i : goal.overflow_add-i
-overflow_add-i c = record { fits = omega (arith, (c.quiet.ensures c.if-quiet.true).within) }
-
-pub loop-i-smaller-then-quiet : goal.loop-i-smaller-then-quiet
-loop-i-smaller-then-quiet c = omega (arith, (c.quiet.ensures c.if-quiet.true).within)
-
-pub loop-i-preserved-then-quiet : goal.loop-i-preserved-then-quiet
-loop-i-preserved-then-quiet c = let q = c.quiet.ensures c.if-quiet.true in
-    tested-past c.loop-i.invariant 8 q.within
-    (λ k h. gone-not c.args.touched _ (sound-at c.args.d.now c.requires _) (q.none k h))
-
-pub gone-requires : goal.gone-requires
-gone-requires c = sound-at c.args.d.now c.requires c.loop-i.i
-
 pub returns-then-gone : goal.returns-then-gone
-returns-then-gone c = tested-here c.loop-i.invariant (omega arith) (sym c.gone.ensures ∙ c.if-gone.true)
+returns-then-gone c =
+    let e : c.loop-w.rest.now ≡ c.in-Some.w.now ∷ c.in-Some.tail.now = search rules in
+    any_here (gone c.args.touched) c.args.d.now c.loop-w.invariant.1 e (sym c.gone.ensures ∙ c.if-gone.true)
 
-pub loop-i-preserved : goal.loop-i-preserved
-loop-i-preserved c = tested-next c.loop-i.invariant (omega arith) (sym c.gone.ensures ∙ c.if-gone.false)
+pub loop-w-preserved : goal.loop-w-preserved
+loop-w-preserved c =
+    let e : c.loop-w.rest.now ≡ c.in-Some.w.now ∷ c.in-Some.tail.now = search rules in (
+      (sound-cons c.in-Some.w.now c.in-Some.tail.now (rw e at c.loop-w.invariant.0)).tail,
+      any_next (gone c.args.touched) c.args.d.now c.loop-w.invariant.1 e (sym c.gone.ensures ∙ c.if-gone.false),
+    )
 
 pub returns : goal.returns
-returns c = tested-all c.loop-i.invariant (omega arith)
+returns c =
+    let h : length c.loop-w.rest.now ≡ 0 = search rules in
+    any_end (gone c.args.touched) c.args.d.now c.loop-w.rest.now c.loop-w.invariant.1 h

@@ -4,13 +4,14 @@ use Rattle.directory.specs.Fit.{fit}
 use Rattle.directory.proofs.Laws.Ordered.{ordered-fit}
 use Rattle.directory.proofs.fitness.fit.Goals as goal
 
-pub returns-then-d-ne256 : goal.returns-then-d-ne256
-unfolding fit
-returns-then-d-ne256 c = rw (ne_eqb _ _ c.if-d-ne256.true)
-
 pub returns-then-ordered : goal.returns-then-ordered
-returns-then-ordered c = sym (ordered-fit 0x5FFF c.args.d.now c.if-d-ne256.false (sym c.ordered.ensures ∙ c.if-ordered.true))
+returns-then-ordered c =
+    c.if-ordered.true ∙ sym (ordered-fit 0x5FFF c.args.d.now c.if-d-eq256.true (sym c.ordered.ensures ∙ c.if-ordered.true))
 
-pub returns : goal.returns
+pub returns-else-ordered : goal.returns-else-ordered
 unfolding fit
-returns c = rw (eq-eqb _ _ c.if-d-ne256.false, c.sound.ensures)
+returns-else-ordered c = rw (eq-eqb _ _ c.if-d-eq256.true, c.sound.ensures)
+
+pub returns-else-d-eq256 : goal.returns-else-d-eq256
+unfolding fit
+returns-else-d-eq256 c = rw (ne_eqb _ _ c.if-d-eq256.false)

@@ -1,32 +1,29 @@
--- After i places the pass over the rest decides.
-use Rattle.std.proofs.Common.{sym, refl, ◌∙◌, arith}
-use borrow.Author.Tests.{not-true, not-false}
+-- The pass over the rest decides.
+use Rattle.std.proofs.Common.{sym, refl, ◌∙◌, arith, rules}
 use Rattle.directory.proofs.Laws.Marks.{passed_none, passed-free, passed-held, passed-unfit, passed-twice, passed-all}
 use Rattle.directory.proofs.fitness.sound.Goals as goal
+use Rattle.directory.proofs.fitness.sound.Goals.{then-w-ne0+else-not-fits+else-note, else-w-ne0}
 
-pub loop-i-init : goal.loop-i-init
-loop-i-init c = passed_none c.args.d.now
+pub loop-w-init : goal.loop-w-init
+loop-w-init c = passed_none c.args.d.now
 
 pub returns-then-not-fits : goal.returns-then-not-fits
-returns-then-not-fits c = sym (passed-unfit c.loop-i.invariant (omega arith) _ refl c.if-w-ne0.true
-    (sym (c.fits.ensures ∙ rw (c.start_of-start.ensures, c.len_of.ensures)) ∙ not-true c.fits.result c.if-not-fits.true-raw))
-
-pub note-requires : goal.note-requires
-note-requires c = c.loop-i.invariant.long
+returns-then-not-fits c = sym (passed-unfit c.loop-w.invariant (omega arith) _ refl c.if-w-ne0.true (search rules))
 
 pub returns-then-note : goal.returns-then-note
-returns-then-note c = sym (passed-twice c.loop-i.invariant (omega arith) _ refl c.if-w-ne0.true
-    (sym (c.fits.ensures ∙ rw (c.start_of-start.ensures, c.len_of.ensures)) ∙ not-false c.fits.result c.if-not-fits.false-raw)
-    (sym (c.note.ensures.value ∙ rw c.start_of-start.ensures) ∙ c.if-note.true))
+returns-then-note c =
+    sym (passed-twice c.loop-w.invariant (omega arith) _ refl c.if-w-ne0.true (search rules)
+    (sym (rw c.of_word-block.ensures at c.note.ensures.value) ∙ c.if-note.true))
 
-pub loop-i-preserved-else-note : goal.loop-i-preserved-else-note
-loop-i-preserved-else-note c = rw (c.note.ensures.seen_after, c.start_of-start.ensures)
-    (passed-held c.loop-i.invariant (omega arith) _ refl c.if-w-ne0.true
-    (sym (c.fits.ensures ∙ rw (c.start_of-start.ensures, c.len_of.ensures)) ∙ not-false c.fits.result c.if-not-fits.false-raw)
-    (sym (c.note.ensures.value ∙ rw c.start_of-start.ensures) ∙ c.if-note.false))
-
-pub loop-i-preserved : goal.loop-i-preserved
-loop-i-preserved c = passed-free c.loop-i.invariant (omega arith) c.if-w-ne0.false
+pub loop-w-preserved : goal.loop-w-preserved
+loop-w-preserved c =
+    elim c.if-w-ne0.branch [
+      | then-w-ne0+else-not-fits+else-note w ↦
+          rw (w.seen-is, w.note.ensures.seen_after, w.of_word-block.ensures)
+          (passed-held c.loop-w.invariant (omega arith) _ refl w.if-w-ne0.true (search rules)
+          (sym (rw w.of_word-block.ensures at w.note.ensures.value) ∙ w.if-note.false))
+      | else-w-ne0 w ↦ rw w.seen-is (passed-free c.loop-w.invariant (omega arith) w.if-w-ne0.false)
+    ]
 
 pub returns : goal.returns
-returns c = sym (passed-all c.loop-i.invariant (omega arith))
+returns c = sym (passed-all c.loop-w.invariant (omega arith))

@@ -1,11 +1,19 @@
--- By the starts.
+-- One place more, and all of them.
+use Rattle.std.proofs.Common.{◌≡◌, length, take, rules, arith}
+use Rattle.std.proofs.lemmas.List.{take_more, take_all}
+use Rattle.directory.specs.Eights.{Climbs}
+use Rattle.directory.proofs.Laws.Eights.{some_if, rising-next, rising-all}
 use Rattle.directory.proofs.order.climb.Goals as goal
 
+pub loop-w-preserved : goal.loop-w-preserved
+loop-w-preserved c =
+    let l : length c.args.eight.now ≡ 8 = search rules in
+    rw (take_more c.args.eight.now c.loop-w.w-index 0 (omega arith), c.of_word-block.ensures)
+    (rising-next c.loop-w.invariant c.requires _ _ (λ h. record { some = omega arith; most = omega arith }))
+
 pub returns : goal.returns
-returns c = rw (
-  c.start_of-3.ensures,
-  c.start_of-2.ensures,
-  c.start_of.ensures,
-  c.start_of-third.ensures,
-  c.start_of-second.ensures,
-)
+returns c =
+    let l : length c.args.eight.now ≡ 8 = search rules in
+    let e : take c.loop-w.w-index c.args.eight.now ≡ c.args.eight.now = take_all c.loop-w.w-index c.args.eight.now (omega arith) in
+    rw c.then_some.ensures
+    (some_if (λ b. Climbs c.args.s c.args.eight.now b) _ c.loop-w.last (λ y. rising-all (rw e at c.loop-w.invariant) y))

@@ -1,42 +1,21 @@
--- After i places, the last with start s, the rest decides.
-use Rattle.std.proofs.Common.{sym, ◌∙◌, arith}
-use borrow.Author.Tests.{not-true, not-false}
-use Rattle.directory.proofs.Laws.Ordered.{climbed-none, climbed-eight, climbed-next, climbed-stop, climbed-all}
+-- The rest decides.
+use Rattle.std.proofs.Common.{◌≡◌, true, false, ◌∷◌, length, ◌∙◌, arith, rules}
+use Rattle.directory.specs.Ordered.{rises}
+use Rattle.directory.proofs.Laws.Ordered.{rises-says, ordered_end, ordered_next, ordered_stop}
 use Rattle.directory.proofs.order.ordered.Goals as goal
 
-pub loop-i-init : goal.loop-i-init
-loop-i-init c = climbed-none c.args.d.now
-
-pub climbs-requires : goal.climbs-requires
-climbs-requires c = c.loop-i.invariant.high
-
-pub overflow_add-i : goal.overflow_add-i
-overflow_add-i c = record { fits = omega (arith, (c.climbs.ensures c.if-climbs.true).within) }
-
-pub offset_bounds-d-i : goal.offset_bounds-d-i
-offset_bounds-d-i c = record { fits = omega (arith, (c.climbs.ensures c.if-climbs.true).within) }
-
-pub bounds-d-i : goal.bounds-d-i
-bounds-d-i c = omega (arith, (c.climbs.ensures c.if-climbs.true).within)
-
-pub overflow_add-i-then-climbs : goal.overflow_add-i-then-climbs
-overflow_add-i-then-climbs c = record { fits = omega (arith, (c.climbs.ensures c.if-climbs.true).within) }
-
-pub loop-i-smaller-then-climbs : goal.loop-i-smaller-then-climbs
-loop-i-smaller-then-climbs c = omega (arith, (c.climbs.ensures c.if-climbs.true).within)
-
-pub loop-i-preserved-then-climbs : goal.loop-i-preserved-then-climbs
-loop-i-preserved-then-climbs c = rw c.start_of-s.ensures (climbed-eight c.loop-i.invariant (c.climbs.ensures c.if-climbs.true))
-
 pub returns-then-not-rises : goal.returns-then-not-rises
-returns-then-not-rises c = c.all_free.ensures
-    ∙ climbed-stop c.loop-i.invariant (omega arith) (sym c.rises.ensures
-    ∙ not-true c.rises.result c.if-not-rises.true-raw)
+returns-then-not-rises c =
+    let e : c.loop-w.rest.now ≡ c.in-Some.w.now ∷ c.in-Some.tail.now = search rules in
+    let r : rises c.loop-w.s c.in-Some.w.now ≡ false = search rules in
+    c.all_free.ensures ∙ ordered_stop c.loop-w.s c.loop-w.invariant.1 e r
 
-pub loop-i-preserved : goal.loop-i-preserved
-loop-i-preserved c = rw c.start_of-s-else-climbs.ensures
-    (climbed-next c.loop-i.invariant (omega arith) (sym c.rises.ensures
-    ∙ not-false c.rises.result c.if-not-rises.false-raw))
+pub loop-w-preserved : goal.loop-w-preserved
+loop-w-preserved c =
+    let e : c.loop-w.rest.now ≡ c.in-Some.w.now ∷ c.in-Some.tail.now = search rules in
+    let r : rises c.loop-w.s c.in-Some.w.now ≡ true = search rules in
+    rw c.of_word-s.ensures
+    (omega (arith, c.loop-w.invariant.0, (rises-says _ _ r).above), ordered_next c.loop-w.s c.loop-w.invariant.1 e r)
 
 pub returns : goal.returns
-returns c = climbed-all c.loop-i.invariant (omega arith)
+returns c = let h : length c.loop-w.rest.now ≡ 0 = search rules in ordered_end c.loop-w.s c.loop-w.rest.now c.loop-w.invariant.1 h

@@ -1,10 +1,10 @@
--- After i places, the last with start s, the rest decides.
-use Rattle.std.proofs.Common.{◌-◌, length}
-use Rattle.directory.proofs.Laws.Ordered.{Climbed}
+-- The rest decides.
+use Rattle.std.proofs.Common.{◌≡◌, ◌≤◌, length}
+use Rattle.directory.specs.Ordered.{ordered}
 use Rattle.directory.proofs.order.ordered.Given as goal
 
-abbrev pub invariant-loop-i : goal.invariant-loop-i
-invariant-loop-i l = Climbed l.d l.i l.s
+abbrev pub invariant-loop-w : goal.invariant-loop-w
+invariant-loop-w l = (0x5FFF ≤ l.s) × (ordered l.s l.rest ≡ ordered 0x5FFF l.d)
 
-abbrev pub decreases-loop-i : goal.decreases-loop-i
-decreases-loop-i l = length l.d - l.i
+abbrev pub decreases-loop-w : goal.decreases-loop-w
+decreases-loop-w l = length l.rest
