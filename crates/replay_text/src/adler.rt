@@ -4,24 +4,14 @@ ghost use Rattle.replay_text.specs.Adler.{adler};
 
 const MODULUS: u32 = 65_521;
 
-// The remainder of a sum of two remainders, or of one and a byte.
-fn reduced(sum: u32) -> u32
-    requires { sum < 131042 }
-    ensures { (result ≡ sum % 65521) × (result < 65521) }
-{
-    if sum < MODULUS { sum } else { sum - MODULUS }
-}
-
 pub fn adler32(bytes: &[u8]) -> u32
     ensures { result ≡ adler bytes.now }
 {
     let mut low: u32 = 1;
     let mut high: u32 = 0;
-    let mut i: usize = 0;
-    while i < bytes.len() {
-        low = reduced(low + bytes[i] as u32);
-        high = reduced(high + low);
-        i += 1;
+    for &b in bytes {
+        low = (low + u32::from(b)) % MODULUS;
+        high = (high + low) % MODULUS;
     }
     high * 65_536 + low
 }

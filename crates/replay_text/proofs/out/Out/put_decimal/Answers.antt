@@ -1,7 +1,7 @@
 -- The digits that `io::decimal` gives are put whole.
 use Rattle.std.proofs.Common.{◌∙◌, arith}
 use Rattle.replay_text.proofs.Laws.Decimal.{decimal-digits}
-use Rattle.replay_text.proofs.out.put_decimal.Goals as goal
+use Rattle.replay_text.proofs.out.Out.put_decimal.Goals as goal
 
 pub returns : goal.returns
 returns c =
