@@ -1,68 +1,31 @@
-// The blocks of a directory. Each function answers where the next byte goes.
-use crate::answers::{end_line, refused, spaced};
-use directory::Found;
+// The blocks of a directory.
+use crate::answers::{answer, end_line, spaced, spaced_hex};
 use directory::block::{len_of, number_of, start_of};
-use replay_text::out::{put_all, put_hex16, put_hex32};
+use refusals::Refusal;
+use replay_text::out::Out;
 
 // A block's length and number.
-fn extent(out: &mut [u8], at: usize, len: u16, number: u32) -> usize {
-    let a = spaced(out, at, len as u64);
-    let b = put_all(out, a, b" $");
-    put_hex32(out, b, number)
+fn extent(out: &mut Out, len: u16, number: u32) {
+    spaced(out, u64::from(len));
+    spaced_hex(out, &number.to_be_bytes());
 }
 
-// What a lookup found.
-pub fn found(out: &mut [u8], at: usize, f: Found) -> usize {
-    if f.refusal != 0 {
-        return refused(out, at, f.refusal);
-    }
-    if !f.held {
-        let a = put_all(out, at, b"ok none");
-        return end_line(out, a);
-    }
-    let a = put_all(out, at, b"ok");
-    let b = extent(out, a, f.len, f.number);
-    end_line(out, b)
+// What a lookup found: a block's length and number.
+pub fn found(out: &mut Out, given: Result<Option<(u16, u32)>, Refusal>) {
+    answer(out, given, |out, block| match block {
+        Some((len, number)) => extent(out, len, number),
+        None => out.put_all(b" none"),
+    });
 }
 
-// How many places are held.
-fn held(d: &[u64]) -> u64 {
-    let mut n: u64 = 0;
-    let mut i: usize = 0;
-    while i < d.len() {
-        let w = d[i];
-        i += 1;
-        if w != 0 {
-            n += 1;
-        }
+// The held places, in their order: how many, and the block of each.
+pub fn directory(out: &mut Out, places: &[u64]) {
+    let held = places.iter().filter(|&&place| place != 0).count();
+    out.put_all(b"ok");
+    spaced(out, held as u64);
+    for &place in places.iter().filter(|&&place| place != 0) {
+        spaced_hex(out, &start_of(place).to_be_bytes());
+        extent(out, len_of(place), number_of(place));
     }
-    n
-}
-
-// A place: nothing where it is free.
-fn place(out: &mut [u8], at: usize, w: u64) -> usize {
-    if w == 0 {
-        return at;
-    }
-    let a = put_all(out, at, b" $");
-    let b = put_hex16(out, a, start_of(w));
-    extent(out, b, len_of(w), number_of(w))
-}
-
-fn places(out: &mut [u8], at: usize, d: &[u64]) -> usize {
-    let mut end = at;
-    let mut i: usize = 0;
-    while i < d.len() {
-        end = place(out, end, d[i]);
-        i += 1;
-    }
-    end
-}
-
-// The held places, in their order.
-pub fn directory(out: &mut [u8], at: usize, d: &[u64]) -> usize {
-    let a = put_all(out, at, b"ok");
-    let b = spaced(out, a, held(d));
-    let c = places(out, b, d);
-    end_line(out, c)
+    end_line(out);
 }
