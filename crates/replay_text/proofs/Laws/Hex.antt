@@ -1,5 +1,6 @@
 -- Pairs of digits from an index on, and what `decode` answers and leaves by them. Assumes nothing.
-use Rattle.std.proofs.Common.{ℕ, ◌+◌, ◌*◌, ◌/◌, ◌%◌, ◌≡◌, ◌≤◌, ◌<◌, cond, Option, Some, None, List, [], ◌∷◌, ◌++◌, length, get_or, take, drop, set}
+use Rattle.std.proofs.Common.{ℕ, ◌+◌, ◌*◌, ◌/◌, ◌%◌, ◌≡◌, ◌≤◌, ◌<◌, cond, Option, Some, None}
+use Rattle.std.proofs.Common.{List, [], ◌∷◌, ◌++◌, length, get_or, take, drop, set}
 use Rattle.std.proofs.Common.{eqb, sym, ◌∙◌, arith, append_assoc, drop_of_length-le}
 use Rattle.std.proofs.lemmas.List.{drop_more, take_more_set, drop-set-lt, take-append-drop}
 use Rattle.std.proofs.lemmas.Bool.{eq-eqb, ne_eqb, lt-ltb, le-ltb}
@@ -18,7 +19,8 @@ pairs-end s i h = rw (drop_of_length-le s h)
 abbrev pub Passed : List ℕ → List ℕ → ℕ → List ℕ → Type 0
 Passed digits buffer i bytes =
     (i + length (pairs (drop (2 * i) digits)) ≡ length (pairs digits)) ×
-    (take i bytes ++ (pairs (drop (2 * i) digits) ++ drop (length (pairs digits)) bytes) ≡ pairs digits ++ drop (length (pairs digits)) buffer)
+    (take i bytes ++ (pairs (drop (2 * i) digits) ++ drop (length (pairs digits)) bytes)
+    ≡ pairs digits ++ drop (length (pairs digits)) buffer)
 
 -- what `decode` answers and leaves
 abbrev pub Decodes : List ℕ → List ℕ → Option ℕ → List ℕ → Type 0
@@ -58,7 +60,8 @@ module _ (digits buffer : List ℕ) where
           → Passed digits buffer (i + 1) (set bytes i b)
       passed-next b h r e =
           let n : 2 * (i + 1) ≡ 2 * i + 1 + 1 = omega arith in
-          let next : pairs (drop (2 * i) digits) ≡ b ∷ pairs (drop (2 * (i + 1)) digits) = rw (e, ← n) at (pairs-next digits (2 * i) (omega arith)) in
+          let next : pairs (drop (2 * i) digits) ≡ b ∷ pairs (drop (2 * (i + 1)) digits) =
+              rw (e, ← n) at (pairs-next digits (2 * i) (omega arith)) in
           let count : (i + 1) + length (pairs (drop (2 * (i + 1)) digits)) ≡ length (pairs digits) = omega (arith, rw next at p.0) in
           let beyond : i < length (pairs digits) = omega arith in (
             count,

@@ -1,5 +1,6 @@
 -- Bytes that are put one after the other. Assumes nothing.
-use Rattle.std.proofs.Common.{ℕ, suc, ◌+◌, ◌-◌, ◌/◌, ◌%◌, get_or, Bool, true, false, append_assoc, length-append, ◌≡◌, ◌<◌, cond, List, [], ◌∷◌, ◌++◌, length, take, refl, ◌∙◌, arith, ltb}
+use Rattle.std.proofs.Common.{ℕ, suc, ◌+◌, ◌-◌, ◌/◌, ◌%◌, ◌≡◌, ◌<◌, Bool, true, false, cond, ltb, refl, ◌∙◌, arith}
+use Rattle.std.proofs.Common.{List, [], ◌∷◌, ◌++◌, length, take, get_or, append_assoc, length-append}
 use Rattle.std.proofs.lemmas.List.{take_more}
 use Rattle.std.proofs.lemmas.Grind.{common_steps, flat_map-append}
 use Rattle.std.proofs.lemmas.Bool.{ltb-true, ltb-false}
@@ -11,7 +12,8 @@ one-more : (bytes s : List ℕ) (b room : ℕ) (t : Bool) → ltb (length bytes)
     → cond t (bytes ++ b ∷ []) bytes ++ take (room - length (cond t (bytes ++ b ∷ []) bytes)) s
     ≡ bytes ++ take (room - length bytes) (b ∷ s)
 one-more bytes s b room true e =
-    let n : room - length bytes ≡ suc (room - length (bytes ++ b ∷ [])) = omega (arith, ltb-true (length bytes) room e, length-append bytes (b ∷ [])) in
+    let n : room - length bytes ≡ suc (room - length (bytes ++ b ∷ [])) =
+        omega (arith, ltb-true (length bytes) room e, length-append bytes (b ∷ [])) in
     rw n (append_assoc bytes (b ∷ []) (take (room - length (bytes ++ b ∷ [])) s))
 one-more bytes s b room false e =
     let n : room - length bytes ≡ 0 = omega (arith, ltb-false (length bytes) room e) in
@@ -21,8 +23,12 @@ one-more bytes s b room false e =
 pub put_take : (p : Put) (s : List ℕ)
     → put_all p s ≡ record { bytes = p.bytes ++ take (p.room - length p.bytes) s; room = p.room }
 unfolding put_all put_one
-put_take p [] = let e : p.bytes ≡ p.bytes ++ take (p.room - length p.bytes) [] = grind (arith, common_steps) in λ i. record { bytes = e i; room = p.room }
-put_take p (b ∷ s) = put_take (put_one p b) s ∙ λ i. record { bytes = one-more p.bytes s b p.room (ltb (length p.bytes) p.room) refl i; room = p.room }
+put_take p [] =
+    let e : p.bytes ≡ p.bytes ++ take (p.room - length p.bytes) [] = grind (arith, common_steps) in
+    λ i. record { bytes = e i; room = p.room }
+put_take p (b ∷ s) =
+    put_take (put_one p b) s
+    ∙ λ i. record { bytes = one-more p.bytes s b p.room (ltb (length p.bytes) p.room) refl i; room = p.room }
 
 pub put-append : (p : Put) (s t : List ℕ) → put_all p (s ++ t) ≡ put_all (put_all p s) t
 unfolding put_all

@@ -17,7 +17,8 @@ pub loop-b-preserved : goal.loop-b-preserved
 loop-b-preserved c = (
   omega arith,
   omega arith,
-  rw c.from.ensures (sym (sums-next c.loop-b.low c.loop-b.high c.args.bytes.now c.loop-b.b-index c.loop-b-test.true) ∙ c.loop-b.invariant.2),
+  rw c.from.ensures
+      (sym (sums-next c.loop-b.low c.loop-b.high c.args.bytes.now c.loop-b.b-index c.loop-b-test.true) ∙ c.loop-b.invariant.2),
 )
 
 pub returns : goal.returns
