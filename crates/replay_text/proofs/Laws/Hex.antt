@@ -61,7 +61,7 @@ module _ (digits buffer : List ℕ) where
       passed-next b h r e =
           let n : 2 * (i + 1) ≡ 2 * i + 1 + 1 = omega arith in
           let next : pairs (drop (2 * i) digits) ≡ b ∷ pairs (drop (2 * (i + 1)) digits) =
-              rw (e, ← n) at (pairs-next digits (2 * i) (omega arith)) in
+          rw (e, ← n) at (pairs-next digits (2 * i) (omega arith)) in
           let count : (i + 1) + length (pairs (drop (2 * (i + 1)) digits)) ≡ length (pairs digits) = omega (arith, rw next at p.0) in
           let beyond : i < length (pairs digits) = omega arith in (
             count,

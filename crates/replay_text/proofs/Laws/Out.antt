@@ -13,7 +13,7 @@ one-more : (bytes s : List ℕ) (b room : ℕ) (t : Bool) → ltb (length bytes)
     ≡ bytes ++ take (room - length bytes) (b ∷ s)
 one-more bytes s b room true e =
     let n : room - length bytes ≡ suc (room - length (bytes ++ b ∷ [])) =
-        omega (arith, ltb-true (length bytes) room e, length-append bytes (b ∷ [])) in
+    omega (arith, ltb-true (length bytes) room e, length-append bytes (b ∷ [])) in
     rw n (append_assoc bytes (b ∷ []) (take (room - length (bytes ++ b ∷ [])) s))
 one-more bytes s b room false e =
     let n : room - length bytes ≡ 0 = omega (arith, ltb-false (length bytes) room e) in

@@ -1,5 +1,5 @@
 -- The sums so far, and those of the bytes that are left, are the sums of all.
-use Rattle.std.proofs.Common.{ℕ, ◌+◌, ◌%◌, ◌*◌, ◌≡◌, ◌<◌, ◌≤◌, List, length, get_or, drop, sym, ◌∙◌, arith, drop_of_length-le}
+use Rattle.std.proofs.Common.{ℕ, ◌+◌, ◌%◌, ◌*◌, ◌≡◌, ◌<◌, ◌≤◌, List, length, get_or, drop, sym, ◌∙◌, drop_of_length-le}
 use Rattle.std.proofs.lemmas.List.{drop_more}
 use Rattle.replay_text.specs.Adler.{sums_from}
 use Rattle.replay_text.proofs.adler.adler32.Goals as goal
@@ -15,9 +15,9 @@ sums-end a b l i h = rw (drop_of_length-le l h)
 
 pub loop-b-preserved : goal.loop-b-preserved
 loop-b-preserved c = (
-  omega arith,
-  omega arith,
-  rw c.from.ensures
+  c.reduced-low.ensures.1,
+  c.reduced-high.ensures.1,
+  rw (c.reduced-high.ensures.0, c.reduced-low.ensures.0, c.from.ensures)
       (sym (sums-next c.loop-b.low c.loop-b.high c.args.bytes.now c.loop-b.b-index c.loop-b-test.true) ∙ c.loop-b.invariant.2),
 )
 
