@@ -1,3 +1,4 @@
+<<<<<<< HEAD
 // The blocks of a directory. Each function answers where the next byte goes.
 use crate::answers::{end_line, refused, spaced};
 use directory::block::Block;
@@ -22,19 +23,39 @@ pub fn found(out: &mut [u8], at: usize, f: Result<Option<Block>, Refusal>) -> us
         }
     };
     end_line(out, end)
+=======
+// The blocks of a directory.
+use crate::answers::{answer, end_line, spaced, spaced_hex};
+use directory::block::Block;
+use refusals::Refusal;
+use replay_text::out::Out;
+
+// A block's length and number.
+fn extent(out: &mut Out, block: Block) {
+    spaced(out, u64::from(block.len));
+    spaced_hex(out, &block.number.to_be_bytes());
 }
 
-// How many places are held.
-fn held(d: &[u64]) -> u64 {
-    let mut n: u64 = 0;
-    let mut i: usize = 0;
-    while i < d.len() {
-        let w = d[i];
-        i += 1;
-        if w != 0 {
-            n += 1;
-        }
+// What a lookup found.
+pub fn found(out: &mut Out, given: Result<Option<Block>, Refusal>) {
+    answer(out, given, |out, found| match found {
+        Some(block) => extent(out, block),
+        None => out.put_all(b" none"),
+    });
+>>>>>>> 78816356cdbbe8059bf882e843bb7215a3c3c040
+}
+
+// The held places, in their order: how many, and the block of each.
+pub fn directory(out: &mut Out, places: &[u64]) {
+    let held = places.iter().filter(|&&place| place != 0).count();
+    out.put_all(b"ok");
+    spaced(out, held as u64);
+    for &place in places.iter().filter(|&&place| place != 0) {
+        let block = Block::of_word(place);
+        spaced_hex(out, &block.start.to_be_bytes());
+        extent(out, block);
     }
+<<<<<<< HEAD
     n
 }
 
@@ -65,4 +86,7 @@ pub fn directory(out: &mut [u8], at: usize, d: &[u64]) -> usize {
     let b = spaced(out, a, held(d));
     let c = places(out, b, d);
     end_line(out, c)
+=======
+    end_line(out);
+>>>>>>> 78816356cdbbe8059bf882e843bb7215a3c3c040
 }
