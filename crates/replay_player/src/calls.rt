@@ -1,6 +1,5 @@
 // Each call on the cartridge and its directory, and its answer.
 use crate::player::Player;
-use crate::refused::answered;
 use board_chip::reset::ResetKind;
 use board_state::{Options, State};
 use call_blocks::writes as blocks;
@@ -8,6 +7,7 @@ use call_cpu::calls as board;
 use image_write::sections::IMAGE_BYTES;
 use image_write::writing::write_image;
 use memory::layout::{Layout, MemoryLayout, Src};
+use refusals::Refusal;
 use replay_answers::answers;
 use replay_calls::call::{Cartridge, IMAGE_ROOM, SAMPLES_ROOM};
 
@@ -22,6 +22,13 @@ fn arena_len(sizes: MemoryLayout) -> usize {
 
 // The calls that may change the state.
 impl Player {
+    // The state after a call; a refused one leaves it.
+    fn keep(&mut self, after: Result<State, Refusal>) {
+        if let Ok(state) = after {
+            self.state = Some(state);
+        }
+    }
+
     // A refused load leaves the old cartridge, whose bytes lie in the same arena.
     pub(crate) fn load(&mut self, cartridge: Cartridge) {
         let old = self.arena.len();
@@ -29,7 +36,7 @@ impl Player {
         // There is room for each arena: with none the load would be refused.
         let _ = self.arena.resize(old.max(new), 0);
         let lent = new.min(self.arena.len());
-        let r = call_blocks::calls::load(
+        let loaded = call_blocks::calls::load(
             &mut self.directory,
             &mut self.arena[..lent],
             cartridge.mapper,
@@ -41,87 +48,82 @@ impl Player {
                 f800_protects: cartridge.f800_protects,
             },
         );
-        if r.refusal == 0 {
-            self.state = Some(r.state);
-            self.arena.truncate(new);
-        } else {
-            self.arena.truncate(old);
+        match loaded {
+            Ok(fresh) => {
+                self.state = Some(fresh);
+                self.arena.truncate(new);
+            }
+            Err(_) => self.arena.truncate(old),
         }
-        answers::ok(&mut self.out, answered(r.refusal, ()));
+        answers::ok(&mut self.out, loaded.map(|_| ()));
     }
 
     pub(crate) fn read(&mut self, s: State, addr: u16) {
-        let r = board::cpu_read(s, &self.arena, addr);
-        self.state = Some(r.state);
-        answers::byte(&mut self.out, answered(r.refusal, r.byte));
+        let read = board::cpu_read(s, &self.arena, addr);
+        self.keep(read.map(|r| r.state));
+        answers::byte(&mut self.out, read.map(|r| r.byte));
     }
 
     pub(crate) fn write(&mut self, s: State, addr: u16, val: u8) {
-        let r = blocks::cpu_write(&mut self.directory, s, &mut self.arena, addr, val);
-        self.state = Some(r.state);
-        answers::written(&mut self.out, answered(r.refusal, r.changed));
+        let written = blocks::cpu_write(&mut self.directory, s, &mut self.arena, addr, val);
+        self.keep(written.map(|w| w.state));
+        answers::written(&mut self.out, written.map(|w| w.changed));
     }
 
     // Lends the first `room` of the samples.
     pub(crate) fn run(&mut self, s: State, clocks: u64, room: usize) {
         let mut samples = [0.0f32; SAMPLES_ROOM];
         let lent = room.min(SAMPLES_ROOM);
-        let r = call_run::run::run(s, clocks, &mut samples[..lent]);
-        self.state = Some(r.state);
-        answers::ran(
-            &mut self.out,
-            answered(r.refusal, (r.rise, r.made)),
-            &samples,
-        );
+        let ran = call_run::run::run(s, clocks, &mut samples[..lent]);
+        self.keep(ran.map(|r| r.state));
+        answers::ran(&mut self.out, ran.map(|r| (r.rise, r.made)), &samples);
     }
 
     pub(crate) fn reset(&mut self, s: State, kind: ResetKind) {
-        let r = call_reset::reset(s, kind as u64);
-        self.state = Some(r.state);
-        answers::ok(&mut self.out, answered(r.refusal, ()));
+        let after = call_reset::reset(s, kind as u64);
+        self.keep(after);
+        answers::ok(&mut self.out, after.map(|_| ()));
     }
 
     pub(crate) fn restore_battery(&mut self, s: State) {
-        let r = call_battery::restore_battery(s, &self.arena);
-        self.state = Some(r.state);
-        answers::ok(&mut self.out, answered(r.refusal, ()));
+        let after = call_battery::restore_battery(s, &self.arena);
+        self.keep(after);
+        answers::ok(&mut self.out, after.map(|_| ()));
     }
 }
 
 // The calls that leave the state as it is.
 impl Player {
     pub(crate) fn peek(&mut self, s: State, addr: u16) {
-        let r = board::cpu_peek(s, &self.arena, addr);
-        answers::byte(&mut self.out, answered(r.refusal, r.byte));
+        answers::byte(&mut self.out, board::cpu_peek(s, &self.arena, addr));
     }
 
     pub(crate) fn preview(&mut self, s: State, addr: u16, val: u8) {
-        let r = blocks::preview(&self.directory, s, &self.arena, addr, val);
-        answers::written(&mut self.out, answered(r.refusal, r.changed));
+        let changed = blocks::preview(&self.directory, s, &self.arena, addr, val);
+        answers::written(&mut self.out, changed);
     }
 
     pub(crate) fn chr_read(&mut self, s: State, addr: u16) {
-        let r = call_regions::chr_read(s, &self.arena, addr);
-        answers::byte(&mut self.out, answered(r.refusal, r.byte));
+        answers::byte(&mut self.out, call_regions::chr_read(s, &self.arena, addr));
     }
 
     pub(crate) fn chr_write(&mut self, s: State, addr: u16, val: u8) {
-        let refusal = blocks::chr_write(&mut self.directory, s, &mut self.arena, addr, val);
-        answers::ok(&mut self.out, answered(refusal, ()));
+        let answer = blocks::chr_write(&mut self.directory, s, &mut self.arena, addr, val);
+        answers::ok(&mut self.out, answer);
     }
 
     pub(crate) fn fill(&mut self, s: State, src: Src, bytes: &[u8]) {
-        let refusal = call_blocks::calls::fill(&mut self.directory, s, &mut self.arena, src, bytes);
-        answers::ok(&mut self.out, answered(refusal, ()));
+        let answer = call_blocks::calls::fill(&mut self.directory, s, &mut self.arena, src, bytes);
+        answers::ok(&mut self.out, answer);
     }
 
     pub(crate) fn region_peek(&mut self, s: State, src: Src, offset: u64) {
-        let r = call_regions::region_peek(s, &self.arena, src, offset);
-        answers::byte(&mut self.out, answered(r.refusal, r.byte));
+        let byte = call_regions::region_peek(s, &self.arena, src, offset);
+        answers::byte(&mut self.out, byte);
     }
 
     pub(crate) fn region_write(&mut self, s: State, src: Src, offset: u64, val: u8) {
-        let refusal = blocks::region_write(
+        let answer = blocks::region_write(
             &mut self.directory,
             s,
             &mut self.arena,
@@ -129,46 +131,38 @@ impl Player {
             offset,
             val,
         );
-        answers::ok(&mut self.out, answered(refusal, ()));
+        answers::ok(&mut self.out, answer);
     }
 
     pub(crate) fn sram(&mut self, s: State) {
-        let r = call_regions::sram(s);
-        answers::pair(
-            &mut self.out,
-            answered(r.refusal, (r.start as u64, r.len as u64)),
-        );
+        let span = call_regions::sram(s);
+        let pair = span.map(|p| (p.start as u64, p.len as u64));
+        answers::pair(&mut self.out, pair);
     }
 
     pub(crate) fn sync_battery(&mut self, s: State) {
-        let refusal = call_blocks::calls::sync_battery(&mut self.directory, s, &mut self.arena);
-        answers::ok(&mut self.out, answered(refusal, ()));
+        let answer = call_blocks::calls::sync_battery(&mut self.directory, s, &mut self.arena);
+        answers::ok(&mut self.out, answer);
     }
 
     // The image in so many bytes, or at its shorter length.
     pub(crate) fn image(&mut self, s: State, len: Option<usize>) {
         let mut room = [0u8; IMAGE_ROOM];
         let lent = len.unwrap_or(IMAGE_BYTES).min(IMAGE_ROOM);
-        let img = &mut room[..lent];
-        let refusal = write_image(s, img);
-        answers::image(&mut self.out, answered(refusal, &room[..lent]));
+        let answer = write_image(s, &mut room[..lent]);
+        answers::image(&mut self.out, answer.map(|()| &room[..lent]));
     }
 }
 
 // The calls on the directory alone, which take neither state nor arena.
 impl Player {
     pub(crate) fn register(&mut self, start: u16, len: u64, number: u32) {
-        let refusal = directory::register(&mut self.directory, start, len, number);
-        answers::ok(&mut self.out, answered(refusal, ()));
+        let answer = directory::register(&mut self.directory, start, len, number);
+        answers::ok(&mut self.out, answer);
     }
 
     pub(crate) fn lookup(&mut self, start: u16) {
-        let f = directory::lookup(&self.directory, start);
-        let block = if f.held {
-            Some((f.len, f.number))
-        } else {
-            None
-        };
-        replay_answers::blocks::found(&mut self.out, answered(f.refusal, block));
+        let found = directory::lookup(&self.directory, start);
+        replay_answers::blocks::found(&mut self.out, found);
     }
 }

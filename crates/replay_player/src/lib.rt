@@ -3,4 +3,3 @@
 
 mod calls; // calls.rt: each call on the cartridge and its directory
 pub mod player; // player.rt: what lasts from line to line, and the answer to a line
-mod refused; // refused.rt: an answer by the number of its refusal
