@@ -22,34 +22,18 @@ pub fn regs_of(w: u64) -> Regs
 pub fn board_numbered(n: u64) -> Board
     ensures { result ≡ board_numbered n }
 {
-    if n == 0 {
-        return Board::Unknown;
+    match n {
+        0 => Board::Unknown,
+        1 => Board::Namco163,
+        2 => Board::Namco175,
+        _ => Board::Namco340,
     }
-    if n == 1 {
-        return Board::Namco163;
-    }
-    if n == 2 {
-        return Board::Namco175;
-    }
-    Board::Namco340
 }
 
 pub fn mirroring_numbered(n: u64) -> Mirroring
     ensures { result ≡ mirroring_numbered n }
 {
-    if n == 0 {
-        return Mirroring::Vertical;
-    }
-    if n == 1 {
-        return Mirroring::Horizontal;
-    }
-    if n == 2 {
-        return Mirroring::SingleScreenA;
-    }
-    if n == 3 {
-        return Mirroring::SingleScreenB;
-    }
-    Mirroring::FourScreen
+    Mirroring::try_from(n.min(4) as u8).unwrap_or(Mirroring::FourScreen)
 }
 
 // The twelve CIRAM flags of their word.

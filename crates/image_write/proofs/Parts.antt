@@ -1,6 +1,7 @@
 -- Laws of parts: words of several fields, and parts one behind the other.
 use mathlib.Core.Path.{◌≡◌, refl, sym, ap, ◌∙◌}
-use mathlib.Core.Bool.{Bool, false}
+use mathlib.Core.Bool.{Bool, true, false}
+use Rattle.std.specs.Int.{from_bool}
 use mathlib.Core.List.{List, [], ◌∷◌, ◌++◌, map, append_assoc, map-append}
 use Prim.Native.Nat.{ℕ, zero, suc, ◌+◌, ◌*◌, ◌^◌, ◌≤◌, ◌<◌}
 use native.Mathlib.Numerals.{add-one}
@@ -14,7 +15,28 @@ use Rattle.bits.specs.Cursor.{Held, Wrote}
 use Rattle.bits.specs.declared.cursor.Cursor.{Cursor}
 use Rattle.bits.proofs.Fields.{pack-append, replicate-snoc}
 use Rattle.bits.proofs.cursor.Laws.{wrote-append, wrote_none, wrote-word}
+use Rattle.memory.specs.declared.mirroring.Mirroring.{Mirroring}
+use Rattle.memory.specs.declared.mirroring.Mirroring.TheVariants.{Vertical, Horizontal, SingleScreenA, SingleScreenB, FourScreen}
+use Rattle.memory.specs.Mirroring.{mirroring_num}
 use Rattle.image_write.specs.Image.{joined, byte_at}
+
+-- ---- words of several fields
+
+-- a yes/no as a number is its bit
+pub bit-is : (b : Bool) → from_bool b ≡ bit b
+bit-is true = refl
+bit-is false = refl
+
+pub bit-small : (b : Bool) → from_bool b < 2
+bit-small true = omega arith
+bit-small false = omega arith
+
+pub mirroring-small : (m : Mirroring) → mirroring_num m < 5
+mirroring-small Vertical = omega arith
+mirroring-small Horizontal = omega arith
+mirroring-small SingleScreenA = omega arith
+mirroring-small SingleScreenB = omega arith
+mirroring-small FourScreen = omega arith
 
 -- ---- words of fields of one width
 

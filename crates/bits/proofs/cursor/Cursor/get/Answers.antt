@@ -1,4 +1,4 @@
--- `bits::cursor::get` meets its contract.
+-- `bits::cursor::Cursor::get` meets its contract.
 use mathlib.Core.Path.{◌≡◌, sym, ap, ◌∙◌}
 use Prim.Native.Nat.{ℕ, ◌+◌, ◌-◌, ◌*◌, ◌/◌, ◌%◌, ◌^◌, ◌<◌}
 use native.Mathlib.Nat.{mod-lt, lt_of_lt_of_le}
@@ -10,7 +10,7 @@ use Rattle.bits.specs.Words.{word_of}
 use Rattle.bits.specs.Cursor.{bits_read}
 use Rattle.bits.proofs.Fields.{after_one}
 use Rattle.bits.proofs.cursor.Laws.{get-bits, got-lt}
-use Rattle.bits.proofs.cursor.get.Goals as goal
+use Rattle.bits.proofs.cursor.Cursor.get.Goals as goal
 
 -- the bits held are few
 held-lt : (N n held : ℕ) → held ≡ N % 2 ^ n → held < 2 ^ n
@@ -22,17 +22,17 @@ byte N n held l e = lt_of_lt_of_le (held-lt N n held e) (pow_mono {i = n} {j = 8
 pub load-acc-requires : goal.load-acc-requires
 load-acc-requires c = (
   omega arith,
-  byte (word_of (take c.args.r.at c.args.img.now)) c.args.r.n c.args.r.acc c.requires.behind.few c.requires.behind.last,
+  byte (word_of (take c.args.self.now.at c.args.img.now)) c.args.self.now.n c.args.self.now.acc c.requires.behind.few c.requires.behind.last,
   omega arith,
 )
 
 pub returns : goal.returns
 unfolding bits_read total
 returns c =
-    let k = (c.args.width + 7 - c.args.r.n) / 8 in
-    let m = c.args.r.n + k * 8 - c.args.width in
-    let e : m + c.args.width ≡ c.args.r.n + k * 8 = omega arith in
-    let all = get-bits c.args.img.now c.args.r.at c.args.r.n c.args.r.acc c.args.width k m c.load-acc.result e (omega arith)
+    let k = (c.args.width + 7 - c.args.self.now.n) / 8 in
+    let m = c.args.self.now.n + k * 8 - c.args.width in
+    let e : m + c.args.width ≡ c.args.self.now.n + k * 8 = omega arith in
+    let all = get-bits c.args.img.now c.args.self.now.at c.args.self.now.n c.args.self.now.acc c.args.width k m c.load-acc.result e (omega arith)
     c.requires.behind.last c.load-acc.ensures.value in
     let under : c.load-acc.result % 2 ^ m < 2 ^ m = mod-lt c.load-acc.result (pow_pos m) in
     record {
@@ -43,8 +43,8 @@ returns c =
       };
       pos = omega arith;
       fit = (
-        got-lt c.args.r.acc c.args.r.n c.args.width k m c.load-acc.result e
-            (held-lt (word_of (take c.args.r.at c.args.img.now)) c.args.r.n c.args.r.acc c.requires.behind.last)
+        got-lt c.args.self.now.acc c.args.self.now.n c.args.width k m c.load-acc.result e
+            (held-lt (word_of (take c.args.self.now.at c.args.img.now)) c.args.self.now.n c.args.self.now.acc c.requires.behind.last)
             c.load-acc.ensures.upper_bound,
         tt,
       );
