@@ -4,6 +4,7 @@ ghost use Rattle.bits.specs.Fields.{unpack};
 ghost use Rattle.image_write.specs.Image.{part, chip_widths};
 ghost use Rattle.image_read.specs.Reading.{is_set, regs_from, board_numbered, mirroring_numbered};
 
+use bits::words::store;
 use board_chip::namco163::{Board, Regs};
 use memory::mirroring::Mirroring;
 
@@ -40,40 +41,22 @@ pub fn mirroring_numbered(n: u64) -> Mirroring
 pub fn flags_of(w: u64) -> [bool; 12]
     ensures { result ≡ map is_set (unpack (replicate 12 1) w) }
 {
-    [
-        w / 2048 % 2 == 1,
-        w / 1024 % 2 == 1,
-        w / 512 % 2 == 1,
-        w / 256 % 2 == 1,
-        w / 128 % 2 == 1,
-        w / 64 % 2 == 1,
-        w / 32 % 2 == 1,
-        w / 16 % 2 == 1,
-        w / 8 % 2 == 1,
-        w / 4 % 2 == 1,
-        w / 2 % 2 == 1,
-        w % 2 == 1,
-    ]
+    let mut flags = [false; 12];
+    for i in 0..12 {
+        let word = w >> (11 - i);
+        flags[i] = word % 2 == 1;
+    }
+    flags
 }
 
 // The twelve CHR banks of two words, six in each.
 pub fn chr_banks_of(a: u64, b: u64) -> [u8; 12]
     ensures { result ≡ unpack (replicate 6 8) a ++ unpack (replicate 6 8) b }
 {
-    [
-        (a / 0x0100_0000_0000 % 256) as u8,
-        (a / 0x0001_0000_0000 % 256) as u8,
-        (a / 0x0100_0000 % 256) as u8,
-        (a / 0x0001_0000 % 256) as u8,
-        (a / 0x0100 % 256) as u8,
-        (a % 256) as u8,
-        (b / 0x0100_0000_0000 % 256) as u8,
-        (b / 0x0001_0000_0000 % 256) as u8,
-        (b / 0x0100_0000 % 256) as u8,
-        (b / 0x0001_0000 % 256) as u8,
-        (b / 0x0100 % 256) as u8,
-        (b % 256) as u8,
-    ]
+    let mut banks = [0; 12];
+    store(&mut banks, 0, 6, a);
+    store(&mut banks, 6, 6, b);
+    banks
 }
 
 pub fn prg_banks_of(w: u64) -> [u8; 3]

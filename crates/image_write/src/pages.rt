@@ -1,5 +1,5 @@
 // The page tables to their bytes, eight entries at a time.
-ghost use Rattle.std.specs.Prelude.{◌+◌, ◌*◌, ◌/◌, ◌<◌, ◌≤◌, ◌≡◌, length};
+ghost use Rattle.std.specs.Prelude.{◌+◌, ◌*◌, ◌/◌, ◌%◌, ◌<◌, ◌≤◌, ◌≡◌, length};
 ghost use Rattle.bits.specs.Fields.{times, each};
 ghost use Rattle.bits.specs.Cursor.{Wrote};
 ghost use Rattle.image_write.specs.Image.{page_widths, page_fields, byte_at};
@@ -20,12 +20,13 @@ fn put_eight(img: &mut [u8], at: usize, g: &[Page])
     c.put(img, 44, quad_word(g[4], g[5], g[6], g[7]));
 }
 
-// A table of n eights from a place on.
-pub fn put_pages(img: &mut [u8], at: usize, pages: &[Page], n: usize)
-    requires { (length pages.now ≡ n * 8) × (at + n * 11 ≤ length img.old) × PagesFit (n * 8) pages.now }
-    ensures { Wrote img.old img.new (byte_at at) (byte_at (at + n * 11)) (times (n * 8) page_widths) (each page_fields pages.now) }
+// A table of whole eights from a place on.
+pub fn put_pages(img: &mut [u8], at: usize, pages: &[Page])
+    requires { (length pages.now % 8 ≡ 0) × (at + length pages.now / 8 * 11 ≤ length img.old) × PagesFit (length pages.now) pages.now }
+    ensures { Wrote img.old img.new (byte_at at) (byte_at (at + length pages.now / 8 * 11))
+        (times (length pages.now) page_widths) (each page_fields pages.now) }
 {
-    for k in 0..n {
+    for k in 0..pages.len() / 8 {
         put_eight(img, at + k * 11, &pages[k * 8..k * 8 + 8]);
     }
 }

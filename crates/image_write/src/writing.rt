@@ -2,7 +2,7 @@
 ghost use Rattle.std.specs.Prelude.{◌≡◌, true, [], ◌∷◌, map, ◌+◌, ◌*◌, ◌<◌, ◌≤◌, length, replicate};
 ghost use Rattle.std.specs.Float.{binary32};
 ghost use Rattle.std.specs.Float.Ieee.{to_bits};
-ghost use Rattle.bits.specs.Cursor.{Held, Wrote};
+ghost use Rattle.bits.specs.Cursor.{Wrote};
 ghost use Rattle.bits.specs.Fields.{bit};
 ghost use Rattle.board_state.specs.State.{BanksIn, Known};
 ghost use Rattle.refusals.specs.Refusal.{refusal_of};
@@ -21,23 +21,13 @@ use crate::sections::{
 };
 use crate::words::{banks_word, detection_word, flags_word, layout_word, port_word, regs_word};
 use bits::cursor::Cursor;
+use bits::words::load;
 use board_chip::namco163::Namco163;
 use board_state::{State, in_range};
 use memory::Memory;
 use refusals::Refusal;
 use sound::audio::Audio;
 use sound::levels::whole_part;
-
-// The twelve CHR banks, a byte each, from any bit on.
-fn put_chr_banks(img: &mut [u8; IMAGE_BYTES], c: &mut Cursor, banks: &[u8; 12])
-    requires held { Held c.old }
-    requires n_in_bounds { c.old.at * 8 + c.old.n + 96 ≤ image_bytes * 8 }
-    ensures { Wrote img.old img.new c.old c.new (replicate 12 8) banks.now }
-{
-    for bank in banks {
-        c.put(img, 8, u64::from(*bank));
-    }
-}
 
 // The channel outputs as whole numbers.
 fn put_levels(img: &mut [u8; IMAGE_BYTES], outs: &[f32; 8])
@@ -72,6 +62,7 @@ fn put_phases(img: &mut [u8; IMAGE_BYTES], phases: &[u32; 8])
     Cursor::at_byte(PHASES_AT).put_run(img, 24, phases);
 }
 
+// The twelve CHR banks go in two words of six.
 fn put_chip(img: &mut [u8; IMAGE_BYTES], chip: &Namco163)
     requires { BanksIn chip.now.prg_banks }
     ensures { Wrote img.old img.new (byte_at chip_at) (byte_at ram_at)
@@ -81,7 +72,8 @@ fn put_chip(img: &mut [u8; IMAGE_BYTES], chip: &Namco163)
     c.put(img, 53, regs_word(chip));
     c.put(img, 5, detection_word(chip));
     c.put(img, 12, flags_word(&chip.nt_bank_enable));
-    put_chr_banks(img, &mut c, &chip.chr_banks);
+    c.put(img, 48, load(&chip.chr_banks, 0, 6, 0));
+    c.put(img, 48, load(&chip.chr_banks, 6, 6, 0));
     c.put(img, 18, banks_word(&chip.prg_banks));
 }
 
@@ -102,8 +94,8 @@ fn put_memory(img: &mut [u8; IMAGE_BYTES], m: &Memory)
     ensures { Wrote img.old img.new (byte_at prg_pages_at) (byte_at image_bytes)
         (joined memory_widths) (joined (memory_fields m.now)) }
 {
-    put_pages(img, PRG_PAGES_AT, &m.prg_pages, 8);
-    put_pages(img, CHR_PAGES_AT, &m.chr_pages, 2);
+    put_pages(img, PRG_PAGES_AT, &m.prg_pages);
+    put_pages(img, CHR_PAGES_AT, &m.chr_pages);
     Cursor::at_byte(LAYOUT_AT).put(img, 32, layout_word(m));
 }
 

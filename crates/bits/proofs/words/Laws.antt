@@ -6,7 +6,7 @@ use native.Mathlib.Nat.{one-mul, not-suc-le-zero, le_of_suc-le-suc, mul-le-mul, 
 use native.Mathlib.Numerals.{add-one}
 use native.Mathlib.Omega.{arith}
 use lib.Pow.{pow-add, pow_mono, shl_exact}
-use lib.ListN.{length, take, drop, set, get_or, length-append, length-replicate, replicate-append-replicate, length-drop}
+use lib.ListN.{replicate, length, take, drop, set, get_or, length-append, length-replicate, replicate-append-replicate, length-drop}
 use lib.Seq.{take-suc, get_or-drop, paste, paste-suc, length-take-le}
 use Rattle.std.proofs.lemmas.List.{get_or-take}
 use Rattle.bits.specs.Fields.{total, pack, unpack, Fit}
@@ -35,12 +35,16 @@ one_shl k h = shl_exact 1 k 64 (omega arith) (omega arith) ∙ one-mul (2 ^ k)
 pub length-bytes : (k n : ℕ) → length (unpack (eights k) n) ≡ k
 length-bytes k n = length-unpack (eights k) n ∙ length-replicate k 8
 
+-- field j of k of b bits
+pub field_at : (b k j x : ℕ) → j < k → get_or (unpack (replicate k b) x) j 0 ≡ x / 2 ^ ((k - 1 - j) * b) % 2 ^ b
+unfolding unpack
+field_at b zero j x h = absurd (not-suc-le-zero h)
+field_at b (suc k) zero x h = rw (total-replicate k b, let e : suc k - 1 - 0 ≡ k = omega arith in e)
+field_at b (suc k) (suc j) x h = rw (let e : suc k - 1 - suc j ≡ k - 1 - j = omega arith in e) (field_at b k j x (le_of_suc-le-suc h))
+
 -- byte j of k
 pub byte_at : (k j x : ℕ) → j < k → get_or (unpack (eights k) x) j 0 ≡ x / 2 ^ ((k - 1 - j) * 8) % 2 ^ 8
-unfolding unpack
-byte_at zero j x h = absurd (not-suc-le-zero h)
-byte_at (suc k) zero x h = rw (total-eights k, let e : suc k - 1 - 0 ≡ k = omega arith in e)
-byte_at (suc k) (suc j) x h = rw (let e : suc k - 1 - suc j ≡ k - 1 - j = omega arith in e) (byte_at k j x (le_of_suc-le-suc h))
+byte_at k j x h = field_at 8 k j x h
 
 -- ---- reading byte after byte
 

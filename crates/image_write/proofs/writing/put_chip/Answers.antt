@@ -6,7 +6,7 @@ use Rattle.bits.specs.Cursor.{Wrote}
 use Rattle.bits.specs.declared.cursor.Cursor.{Cursor}
 use Rattle.image_write.specs.Image.{image_bytes, joined, chip_widths, chip_fields, part}
 use Rattle.image_write.specs.Sections.{chip_at, ram_at}
-use Rattle.image_write.proofs.Parts.{wrote-to, wrote-fields, wrote-end, wrote-part}
+use Rattle.image_write.proofs.Parts.{wrote-to, wrote-fields, wrote-end, wrote-part, wrote-twelve}
 use native.Mathlib.Omega.{arith}
 use Rattle.image_write.proofs.writing.put_chip.Goals as goal
 
@@ -34,18 +34,25 @@ put-requires-3-clause-width_bound c =
     let a = after 53 c.put-2.ensures (after 0 (rw c.at_byte-c.ensures at c.put.ensures) (refl, c.told-img)) in
     (omega arith, c.flags_word.ensures.1, omega (arith, a.0, a.1))
 
-pub put_chr_banks-requires-clause-n_in_bounds : goal.put_chr_banks-requires-clause-n_in_bounds
-unfolding total
-put_chr_banks-requires-clause-n_in_bounds c =
-    let a = after 58 c.put-3.ensures
-    (after 53 c.put-2.ensures (after 0 (rw c.at_byte-c.ensures at c.put.ensures) (refl, c.told-img))) in
-    omega (arith, a.0, a.1)
-
 pub put-requires-4-clause-width_bound : goal.put-requires-4-clause-width_bound
 unfolding total
 put-requires-4-clause-width_bound c =
-    let a = after 70 c.put_chr_banks.ensures (after 58 c.put-3.ensures
+    let a = after 58 c.put-3.ensures
+    (after 53 c.put-2.ensures (after 0 (rw c.at_byte-c.ensures at c.put.ensures) (refl, c.told-img))) in
+    (omega arith, c.load.ensures.upper_bound, omega (arith, a.0, a.1))
+
+pub put-requires-5-clause-width_bound : goal.put-requires-5-clause-width_bound
+unfolding total
+put-requires-5-clause-width_bound c =
+    let a = after 70 c.put-4.ensures (after 58 c.put-3.ensures
     (after 53 c.put-2.ensures (after 0 (rw c.at_byte-c.ensures at c.put.ensures) (refl, c.told-img)))) in
+    (omega arith, c.load-2.ensures.upper_bound, omega (arith, a.0, a.1))
+
+pub put-requires-6-clause-width_bound : goal.put-requires-6-clause-width_bound
+unfolding total
+put-requires-6-clause-width_bound c =
+    let a = after 118 c.put-5.ensures (after 70 c.put-4.ensures (after 58 c.put-3.ensures
+    (after 53 c.put-2.ensures (after 0 (rw c.at_byte-c.ensures at c.put.ensures) (refl, c.told-img))))) in
     (omega arith, c.banks_word.ensures.1, omega (arith, a.0, a.1))
 
 -- ---- the parts together
@@ -69,7 +76,8 @@ returns c =
     (wrote-fields (part chip_widths 1) (part f 1) c.detection_word.ensures.value c.put-2.ensures)
     (wrote-part _ _ _ _ _ _ (part chip_widths 2) (part f 2) _ _ (sym (length-map n.nt_bank_enable bit ∙ flags))
     (wrote-fields (part chip_widths 2) (part f 2) c.flags_word.ensures.0 c.put-3.ensures)
-    (wrote-part _ _ _ _ _ _ (part chip_widths 3) (part f 3) _ _ (sym chr) c.put_chr_banks.ensures
+    (wrote-part _ _ _ _ _ _ (part chip_widths 3) (part f 3) _ _ (sym chr)
+    (wrote-twelve _ _ _ _ _ _ n.chr_banks _ _ chr c.load.ensures.value c.load-2.ensures.value c.put-4.ensures c.put-5.ensures)
     (wrote-part _ _ _ _ _ _ (part chip_widths 4) (part f 4) [] [] (sym prg)
-    (wrote-fields (part chip_widths 4) (part f 4) c.banks_word.ensures.0 c.put-4.ensures)
-    (wrote-end _ _ c.put-4.ensures.held))))))
+    (wrote-fields (part chip_widths 4) (part f 4) c.banks_word.ensures.0 c.put-6.ensures)
+    (wrote-end _ _ c.put-6.ensures.held))))))
