@@ -2,6 +2,7 @@
 // block is held.
 ghost use Rattle.std.specs.Prelude.{◌≡◌, Some};
 ghost use Rattle.directory.specs.Calls.{register_refusal, registered, found_block};
+ghost use Rattle.refusals.specs.Refusal.{word_of};
 ghost use Rattle.host.specs.Host.{sizes_of, options_of};
 ghost use Rattle.host.specs.Blocks.{found_word, host_lookup, host_find, host_load_blocks, host_load_places, host_write_blocks, host_write_places};
 ghost use Rattle.host.specs.Blocks.{host_stored, host_stored_places};
@@ -14,7 +15,7 @@ use directory::{find, lookup, register};
 use host_blocks::{stored_on, write_blocks_on};
 use image_read::reading::read_image;
 use image_write::writing::{put_image, room_for};
-use refusals::refusal_of;
+use refusals::Refusal;
 
 // The length in bits 8..31 and the number in bits 32..63.
 fn found_word(block: Block) -> u64
@@ -24,21 +25,21 @@ fn found_word(block: Block) -> u64
 }
 
 // Registers a block (K3). The word is the refusal number alone.
-pub fn namco163_register(directory: &mut [u64], start: u16, length: u64, number: u32) -> u64
-    ensures value { result ≡ register_refusal directory.old start length }
+pub fn namco163_register(directory: &mut [u64], start: u16, length: u64, number: u32) -> Result<u64, Refusal>
+    ensures value { word_of result ≡ register_refusal directory.old start length }
     ensures directory_after { directory.new ≡ registered directory.old start length number }
 {
-    refusal_of(&register(directory, start, length, number)) as u64
+    register(directory, start, length, number)?;
+    Ok(0)
 }
 
 // The block held at a start (K4): its length in bits 8..31, its number in bits 32..63; 0 for none.
-pub fn namco163_lookup(directory: &[u64], start: u16) -> u64
-    ensures { result ≡ host_lookup directory.now start }
+pub fn namco163_lookup(directory: &[u64], start: u16) -> Result<u64, Refusal>
+    ensures { word_of result ≡ host_lookup directory.now start }
 {
-    match lookup(directory, start) {
-        Ok(None) => 0,
-        Ok(Some(block)) => found_word(block),
-        Err(refusal) => refusal.number() as u64,
+    match lookup(directory, start)? {
+        Some(block) => Ok(found_word(block)),
+        None => Ok(0),
     }
 }
 
@@ -66,8 +67,8 @@ pub fn namco163_load_blocks(
     chr_ram: u64,
     ciram: u64,
     f800_protects: u64,
-) -> u64
-    ensures value { result ≡ (host_load_blocks image.old arena.old directory.old mapper submapper flags
+) -> Result<u64, Refusal>
+    ensures value { word_of result ≡ (host_load_blocks image.old arena.old directory.old mapper submapper flags
         in_database (sizes_of prg_rom prg_ram battery chr chr_ram ciram) (options_of f800_protects)).word }
     ensures image_after { image.new ≡ (host_load_blocks image.old arena.old directory.old mapper
         submapper flags in_database (sizes_of prg_rom prg_ram battery chr chr_ram ciram) (options_of f800_protects)).image }
@@ -77,13 +78,13 @@ pub fn namco163_load_blocks(
         (sizes_of prg_rom prg_ram battery chr chr_ram ciram) (options_of f800_protects) }
 {
     if !room_for(f800_protects != 0, image.len()) {
-        return 1;
+        return Err(Refusal::Image);
     }
     let sizes = sizes_of(prg_rom, prg_ram, battery, chr, chr_ram, ciram);
     let options = Options {
         f800_protects: f800_protects != 0,
     };
-    let loaded = load(
+    let fresh = load(
         directory,
         arena,
         mapper,
@@ -92,13 +93,9 @@ pub fn namco163_load_blocks(
         in_database != 0,
         sizes,
         options,
-    );
-    if loaded.refusal != 0 {
-        return loaded.refusal as u64;
-    }
-    let fresh = loaded.state;
+    )?;
     put_image(image, fresh);
-    0
+    Ok(0)
 }
 
 // A CPU write, which drops the blocks over the pages that it touches (K5). Word, image and arena are namco163_write's.
@@ -108,31 +105,24 @@ pub fn namco163_write_blocks(
     directory: &mut [u64],
     addr: u16,
     val: u8,
-) -> u64
-    ensures value { result ≡ (host_write_blocks image.old arena.old directory.old addr val).word }
+) -> Result<u64, Refusal>
+    ensures value { word_of result ≡ (host_write_blocks image.old arena.old directory.old addr val).word }
     ensures image_after { image.new
         ≡ (host_write_blocks image.old arena.old directory.old addr val).image }
     ensures arena_after { arena.new
         ≡ (host_write_blocks image.old arena.old directory.old addr val).lent }
     ensures directory_after { directory.new ≡ host_write_places image.old arena.old directory.old addr val }
 {
-    let read = read_image(image);
-    if read.refusal != 0 {
-        return read.refusal as u64;
-    }
-    let s = read.state;
-    write_blocks_on(directory, s, arena, addr, val, image)
+    let read = read_image(image)?;
+    write_blocks_on(directory, read, arena, addr, val, image)
 }
 
 // After a store of the host's own into the arena: the blocks over the pages that show the byte's arena page go (K5).
-pub fn namco163_stored(image: &[u8], directory: &mut [u64], offset: u64) -> u64
-    ensures value { result ≡ host_stored image.now directory.old }
+pub fn namco163_stored(image: &[u8], directory: &mut [u64], offset: u64) -> Result<u64, Refusal>
+    ensures value { word_of result ≡ host_stored image.now directory.old }
     ensures directory_after { directory.new ≡ host_stored_places image.now directory.old offset }
 {
-    let read = read_image(image);
-    if read.refusal != 0 {
-        return read.refusal as u64;
-    }
-    let s = read.state;
-    stored_on(directory, s, offset)
+    let read = read_image(image)?;
+    stored_on(directory, read, offset)?;
+    Ok(0)
 }

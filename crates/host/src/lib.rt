@@ -7,6 +7,7 @@ mod load; // load.rt: loads into an image
 
 ghost use Rattle.std.specs.Prelude.{◌≡◌};
 ghost use Rattle.board_state.specs.State.{no_options};
+ghost use Rattle.refusals.specs.Refusal.{word_of};
 ghost use Rattle.host.specs.Host.{sizes_of, options_of, host_load, host_reset, host_read, host_write, host_run};
 
 use crate::load::{load_image, sizes_of};
@@ -14,6 +15,7 @@ use board_state::Options;
 use host_preview::preview_on;
 use host_state::{read_on, reset_on, run_on, write_on};
 use image_read::reading::read_image;
+use refusals::Refusal;
 
 // A fresh state for a cartridge, and its arena filled with zeros. Sizes are in bytes; `in_database` and `chr_ram` are 0 for no (H5).
 pub fn namco163_load(
@@ -29,8 +31,8 @@ pub fn namco163_load(
     chr: u64,
     chr_ram: u64,
     ciram: u64,
-) -> u64
-    ensures value { result ≡ (host_load image.old arena.old mapper submapper flags in_database
+) -> Result<u64, Refusal>
+    ensures value { word_of result ≡ (host_load image.old arena.old mapper submapper flags in_database
         (sizes_of prg_rom prg_ram battery chr chr_ram ciram) no_options).word }
     ensures image_after { image.new ≡ (host_load image.old arena.old mapper submapper flags in_database
         (sizes_of prg_rom prg_ram battery chr chr_ram ciram) no_options).image }
@@ -68,8 +70,8 @@ pub fn namco163_load_options(
     chr_ram: u64,
     ciram: u64,
     f800_protects: u64,
-) -> u64
-    ensures value { result ≡ (host_load image.old arena.old mapper submapper flags in_database
+) -> Result<u64, Refusal>
+    ensures value { word_of result ≡ (host_load image.old arena.old mapper submapper flags in_database
         (sizes_of prg_rom prg_ram battery chr chr_ram ciram) (options_of f800_protects)).word }
     ensures image_after { image.new ≡ (host_load image.old arena.old mapper submapper flags in_database
         (sizes_of prg_rom prg_ram battery chr chr_ram ciram) (options_of f800_protects)).image }
@@ -93,67 +95,47 @@ pub fn namco163_load_options(
 }
 
 // Kind 0 is soft, 1 is hard (N3).
-pub fn namco163_reset(image: &mut [u8], kind: u64) -> u64
-    ensures value { result ≡ (host_reset image.old kind).word }
+pub fn namco163_reset(image: &mut [u8], kind: u64) -> Result<u64, Refusal>
+    ensures value { word_of result ≡ (host_reset image.old kind).word }
     ensures image_after { image.new ≡ (host_reset image.old kind).image }
 {
-    let read = read_image(image);
-    if read.refusal != 0 {
-        return read.refusal as u64;
-    }
-    let s = read.state;
-    reset_on(s, kind, image)
+    let read = read_image(image)?;
+    reset_on(read.state, kind, image)
 }
 
 // The byte at a CPU address, in bits 8..15 (H6).
-pub fn namco163_read(image: &mut [u8], arena: &[u8], addr: u16) -> u64
-    ensures value { result ≡ (host_read image.old arena.now addr).word }
+pub fn namco163_read(image: &mut [u8], arena: &[u8], addr: u16) -> Result<u64, Refusal>
+    ensures value { word_of result ≡ (host_read image.old arena.now addr).word }
     ensures image_after { image.new ≡ (host_read image.old arena.now addr).image }
 {
-    let read = read_image(image);
-    if read.refusal != 0 {
-        return read.refusal as u64;
-    }
-    let s = read.state;
-    read_on(s, arena, addr, image)
+    let read = read_image(image)?;
+    read_on(read, arena, addr, image)
 }
 
 // The changed page entries: those of CHR in bits 8..23, those of PRG in bits 24..63 (H6).
-pub fn namco163_write(image: &mut [u8], arena: &mut [u8], addr: u16, val: u8) -> u64
-    ensures value { result ≡ (host_write image.old arena.old addr val).word }
+pub fn namco163_write(image: &mut [u8], arena: &mut [u8], addr: u16, val: u8) -> Result<u64, Refusal>
+    ensures value { word_of result ≡ (host_write image.old arena.old addr val).word }
     ensures image_after { image.new ≡ (host_write image.old arena.old addr val).image }
     ensures arena_after { arena.new ≡ (host_write image.old arena.old addr val).lent }
 {
-    let read = read_image(image);
-    if read.refusal != 0 {
-        return read.refusal as u64;
-    }
-    let s = read.state;
-    write_on(s, arena, addr, val, image)
+    let read = read_image(image)?;
+    write_on(read, arena, addr, val, image)
 }
 
 // What a write would answer, with nothing altered (L18).
-pub fn namco163_preview(image: &[u8], arena: &[u8], addr: u16, val: u8) -> u64
-    ensures { result ≡ (host_write image.now arena.now addr val).word }
+pub fn namco163_preview(image: &[u8], arena: &[u8], addr: u16, val: u8) -> Result<u64, Refusal>
+    ensures { word_of result ≡ (host_write image.now arena.now addr val).word }
 {
-    let read = read_image(image);
-    if read.refusal != 0 {
-        return read.refusal as u64;
-    }
-    let s = read.state;
-    preview_on(s, arena, addr, val)
+    let read = read_image(image)?;
+    preview_on(read, arena, addr, val)
 }
 
 // Runs so many clocks: samples made in bits 8..31, the clock of the rise in bits 32..63 (H6).
-pub fn namco163_run(image: &mut [u8], samples: &mut [u8], clocks: u64) -> u64
-    ensures value { result ≡ (host_run image.old samples.old clocks).word }
+pub fn namco163_run(image: &mut [u8], samples: &mut [u8], clocks: u64) -> Result<u64, Refusal>
+    ensures value { word_of result ≡ (host_run image.old samples.old clocks).word }
     ensures image_after { image.new ≡ (host_run image.old samples.old clocks).image }
     ensures samples_after { samples.new ≡ (host_run image.old samples.old clocks).lent }
 {
-    let read = read_image(image);
-    if read.refusal != 0 {
-        return read.refusal as u64;
-    }
-    let s = read.state;
-    run_on(s, clocks, samples, image)
+    let read = read_image(image)?;
+    run_on(read, clocks, samples, image)
 }

@@ -1,11 +1,13 @@
 // Loads into an image of either length (H10): what the C calls share.
 ghost use Rattle.std.specs.Prelude.{◌≡◌};
+ghost use Rattle.refusals.specs.Refusal.{word_of};
 ghost use Rattle.host.specs.Host.{sizes_of, host_load};
 
 use board_state::Options;
 use call_load::load;
 use image_write::writing::{put_image, room_for};
 use memory::layout::MemoryLayout;
+use refusals::Refusal;
 
 pub fn sizes_of(
     rom: u64,
@@ -21,9 +23,9 @@ pub fn sizes_of(
         prg_rom: rom,
         prg_ram: ram,
         battery_ext: battery,
-        chr: chr,
+        chr,
         chr_writable: writable != 0,
-        ciram: ciram,
+        ciram,
     }
 }
 
@@ -36,21 +38,17 @@ pub fn load_image(
     known: u64,
     sizes: MemoryLayout,
     options: Options,
-) -> u64
-    ensures value { result ≡ (host_load image.old arena.old mapper submapper flags known sizes options).word }
+) -> Result<u64, Refusal>
+    ensures value { word_of result ≡ (host_load image.old arena.old mapper submapper flags known sizes options).word }
     ensures image_after { image.new
         ≡ (host_load image.old arena.old mapper submapper flags known sizes options).image }
     ensures arena_after { arena.new
         ≡ (host_load image.old arena.old mapper submapper flags known sizes options).lent }
 {
     if !room_for(options.f800_protects, image.len()) {
-        return 1;
+        return Err(Refusal::Image);
     }
-    let loaded = load(arena, mapper, submapper, flags, known != 0, sizes, options);
-    if loaded.refusal != 0 {
-        return loaded.refusal as u64;
-    }
-    let fresh = loaded.state;
+    let fresh = load(arena, mapper, submapper, flags, known != 0, sizes, options)?;
     put_image(image, fresh);
-    0
+    Ok(0)
 }

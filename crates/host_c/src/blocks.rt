@@ -5,6 +5,8 @@ ghost use Rattle.host.specs.Host.{sizes_of, options_of};
 ghost use Rattle.host.specs.Blocks.{host_lookup, host_find, host_load_blocks, host_load_places, host_write_blocks, host_write_places};
 ghost use Rattle.host.specs.Blocks.{host_stored, host_stored_places};
 
+use refusals::word;
+
 #[unsafe(no_mangle)]
 pub extern "C" fn namco163_register(
     directory: &mut [u64],
@@ -15,14 +17,14 @@ pub extern "C" fn namco163_register(
     ensures value { result ≡ register_refusal directory.old start length }
     ensures directory_after { directory.new ≡ registered directory.old start length number }
 {
-    host::blocks::namco163_register(directory, start, length, number)
+    word(host::blocks::namco163_register(directory, start, length, number))
 }
 
 #[unsafe(no_mangle)]
 pub extern "C" fn namco163_lookup(directory: &[u64], start: u16) -> u64
     ensures { result ≡ host_lookup directory.now start }
 {
-    host::blocks::namco163_lookup(directory, start)
+    word(host::blocks::namco163_lookup(directory, start))
 }
 
 #[unsafe(no_mangle)]
@@ -58,7 +60,7 @@ pub extern "C" fn namco163_load_blocks(
     ensures directory_after { directory.new ≡ host_load_places image.old arena.old directory.old mapper
         (sizes_of prg_rom prg_ram battery chr chr_ram ciram) (options_of f800_protects) }
 {
-    host::blocks::namco163_load_blocks(
+    word(host::blocks::namco163_load_blocks(
         image,
         arena,
         directory,
@@ -73,7 +75,7 @@ pub extern "C" fn namco163_load_blocks(
         chr_ram,
         ciram,
         f800_protects,
-    )
+    ))
 }
 
 #[unsafe(no_mangle)]
@@ -91,7 +93,7 @@ pub extern "C" fn namco163_write_blocks(
         ≡ (host_write_blocks image.old arena.old directory.old addr val).lent }
     ensures directory_after { directory.new ≡ host_write_places image.old arena.old directory.old addr val }
 {
-    host::blocks::namco163_write_blocks(image, arena, directory, addr, val)
+    word(host::blocks::namco163_write_blocks(image, arena, directory, addr, val))
 }
 
 #[unsafe(no_mangle)]
@@ -99,5 +101,5 @@ pub extern "C" fn namco163_stored(image: &[u8], directory: &mut [u64], offset: u
     ensures value { result ≡ host_stored image.now directory.old }
     ensures directory_after { directory.new ≡ host_stored_places image.now directory.old offset }
 {
-    host::blocks::namco163_stored(image, directory, offset)
+    word(host::blocks::namco163_stored(image, directory, offset))
 }

@@ -21,6 +21,7 @@ use Rattle.board_state.specs.State.{in_range}
 use Rattle.call_refusals.specs.Refusals.{Check, unless_refused}
 use Rattle.board_state.specs.None.{no_state}
 use Rattle.refusals.specs.declared.Refusal.{Refusal}
+use Rattle.call_refusals.specs.declared.known.KnownState.{KnownState}
 use Rattle.refusals.specs.Refusal.{answered}
 use Rattle.image_write.specs.Image.{image_bytes, part, part_widths, widths}
 use Rattle.image_write.specs.Options.{option_widths}
@@ -188,8 +189,8 @@ abbrev pub refused_read : ℕ → ReadImage
 refused_read q = record { refusal = q; state = no_state }
 
 -- the answer as its number and its state
-abbrev pub read_answer : Result State Refusal → ReadImage
-read_answer = answered refused_read (λ s. record { refusal = 0; state = s })
+abbrev pub read_answer : Result KnownState Refusal → ReadImage
+read_answer = answered refused_read (λ (k : KnownState). record { refusal = 0; state = k.state })
 
 unfoldable pub read_image : List ℕ → ReadImage
 read_image img = unless_refused (read_checks img) refused_read (record { refusal = 0; state = state_in img })

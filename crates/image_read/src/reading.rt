@@ -14,7 +14,8 @@ use crate::words::{
 use bits::cursor::Cursor;
 use bits::words::load;
 use board_chip::namco163::Namco163;
-use board_state::{State, in_range};
+use board_state::State;
+use call_refusals::known::KnownState;
 use image_write::sections::{
     CHIP_AT, CHR_PAGES_AT, IMAGE_BYTES, LAYOUT_AT, LEVELS_AT, OUT_AT, PHASES_AT, PORT_AT,
     PRG_PAGES_AT, RAM_AT,
@@ -169,7 +170,7 @@ fn read_fields(img: &[u8; IMAGE_BYTES], h: Head, bits: u32, f800_protects: bool)
 }
 
 // Reads the IMAGE_BYTES bytes before the options, given the byte of options.
-fn read_body(img: &[u8; IMAGE_BYTES], options: u8) -> Result<State, Refusal>
+fn read_body(img: &[u8; IMAGE_BYTES], options: u8) -> Result<KnownState, Refusal>
     ensures { read_answer result ≡ read_body img.now options }
 {
     if options % 128 != 0 {
@@ -183,15 +184,11 @@ fn read_body(img: &[u8; IMAGE_BYTES], options: u8) -> Result<State, Refusal>
     if 4 < h.detection / 2 % 8 {
         return Err(Refusal::State);
     }
-    let s = read_fields(img, h, bits as u32, options / 128 == 1);
-    if !in_range(s) {
-        return Err(Refusal::State);
-    }
-    Ok(s)
+    KnownState::new(read_fields(img, h, bits as u32, options / 128 == 1))
 }
 
 // Reads an image of either length.
-pub fn read_image(img: &[u8]) -> Result<State, Refusal>
+pub fn read_image(img: &[u8]) -> Result<KnownState, Refusal>
     ensures { read_answer result ≡ read_image img.now }
 {
     let Some((body, options)) = img.split_first_chunk::<IMAGE_BYTES>() else {

@@ -1,8 +1,9 @@
 -- `namco163_reset` meets its contract: refused by the image, or on with its state.
 use Prim.Native.Nat.{ℕ}
-use mathlib.Core.Path.{◌≡◌}
+use mathlib.Core.Path.{◌≡◌, refl, ◌∙◌}
 use mathlib.Core.List.{List, [], ◌∷◌}
 use lib.ListN.{length}
+use Rattle.refusals.proofs.Numbers.{numbered, passed-word}
 use Rattle.image_read.specs.Reading.{ReadImage}
 use Rattle.image_read.specs.Reading.{read_image}
 use Rattle.call_refusals.specs.Refusals.{kind_check}
@@ -17,18 +18,18 @@ call : (image : List ℕ) (kind : ℕ) {r : ReadImage} → r ≡ read_image imag
     → OnImage image [] (λ s. kind_check kind ∷ []) (λ s. reset_gives (length image) s kind) r
 call image kind is = on-image _ _ _ _ _ is
 
-pub returns-then-read-ne0 : goal.returns-then-read-ne0
+pub returns-in_err-read : goal.returns-in_err-read
 unfolding host_reset
-returns-then-read-ne0 c =
-    let e = (call c.args.image.now c.args.kind c.read_image-read.ensures).refused c.if-read-ne0.true in
-    record { value = word_of e; image_after = image-of e }
+returns-in_err-read c =
+    let e = (call c.args.image.now c.args.kind c.in_err-read.ensures).refused (numbered _) in
+    record { value = passed-word _ _ c.from_residual.ensures.1 ∙ word_of e; image_after = image-of e }
 
 pub reset_on-requires : goal.reset_on-requires
-reset_on-requires c = ((call c.args.image.now c.args.kind c.read_image-read.ensures).good c.if-read-ne0.false).0
+reset_on-requires c = ((call c.args.image.now c.args.kind c.in_ok-read.ensures).good refl).0
 
 pub returns : goal.returns
 unfolding host_reset
 returns c =
-    let goes_on = (call c.args.image.now c.args.kind c.read_image-read.ensures).goes_on c.if-read-ne0.false in
+    let goes_on = (call c.args.image.now c.args.kind c.in_ok-read.ensures).goes_on refl in
     let both = two-of (c.reset_on.ensures.value, c.reset_on.ensures.image_after) goes_on in
     record { value = both.0; image_after = both.1 }

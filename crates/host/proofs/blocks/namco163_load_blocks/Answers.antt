@@ -2,6 +2,7 @@
 use mathlib.Core.Path.{refl, sym, ap, ◌∙◌}
 use mathlib.Core.List.{◌∷◌}
 use lib.ListN.{length}
+use Rattle.refusals.proofs.Numbers.{numbered, passed-word}
 use borrow.Author.Rules.{rules}
 use Rattle.memory.specs.declared.layout.MemoryLayout.{MemoryLayout}
 use Rattle.call_refusals.specs.Refusals.{load_checks}
@@ -29,26 +30,26 @@ returns-then-not-room_for c =
     record { value = word_of e; image_after = image-of e; arena_after = lent_of e; directory_after = kept }
 
 -- here and below the bytes hold the image by `room-here`, and `arena-left` and `places-left` are what a load of those sizes leaves
-pub returns-then-loaded-ne0 : goal.returns-then-loaded-ne0
+pub returns-in_err-fresh : goal.returns-in_err-fresh
 unfolding host_load_blocks
-returns-then-loaded-ne0 c =
+returns-in_err-fresh c =
     let a = c.args in
     let sizes = sizes_of a.prg_rom a.prg_ram a.battery a.chr a.chr_ram a.ciram in
     let options = options_of a.f800_protects in
     let given = load_gives (length a.image.now) a.arena.now a.mapper a.submapper a.flags a.in_database sizes options in
-    let load = c.load-loaded.ensures in
+    let load = c.in_err-fresh.ensures in
     let room-here = sym c.room_for.ensures ∙ c.if-not-room_for.false in
     let loaded = load-blocks a.image.now a.arena.now a.directory.now a.mapper a.submapper a.flags (yes a.in_database) sizes options
-    c.load-loaded.result room-here (rw c.sizes_of-sizes.ensures at load.value) in
+    _ room-here (rw c.sizes_of-sizes.ensures at load.value) in
     let checks = load_blocks_checks a.image.now a.arena.now a.directory.now a.mapper sizes options in
     let call = called checks a.image.now a.arena.now given given _ loaded.number refl in
     let arena-left = ap (λ (x : MemoryLayout). load_leaves a.directory.now a.mapper x a.arena.now) c.sizes_of-sizes.ensures in
     let places-left = ap (λ (x : MemoryLayout). load_drops a.directory.now a.mapper x a.arena.now) c.sizes_of-sizes.ensures in
-    let e = call.refused c.if-loaded-ne0.true in
+    let e = call.refused (numbered _) in
     record {
-      value = word_of e;
+      value = passed-word _ _ c.from_residual.ensures.1 ∙ word_of e;
       image_after = image-of e;
-      arena_after = load.arena_after ∙ arena-left ∙ loaded.arena-stays c.if-loaded-ne0.true ∙ lent_of e;
+      arena_after = load.arena_after ∙ arena-left ∙ loaded.arena-stays (numbered _) ∙ lent_of e;
       directory_after = load.d_after ∙ places-left ∙ loaded.places-after;
     }
 
@@ -59,11 +60,10 @@ put_image-requires c =
     let options = options_of a.f800_protects in
     let room-here = sym c.room_for.ensures ∙ c.if-not-room_for.false in
     let loaded = load-blocks a.image.now a.arena.now a.directory.now a.mapper a.submapper a.flags (yes a.in_database) sizes options
-    c.load-loaded.result room-here (rw c.sizes_of-sizes.ensures at c.load-loaded.ensures.value) in
-    let z = c.if-loaded-ne0.false in
-    let own = loaded.own-load z in (
-      room-fresh a.mapper a.submapper a.flags (yes a.in_database) sizes options a.arena.now _ own z (length a.image.now) room-here,
-      load-known a.mapper a.submapper a.flags (yes a.in_database) sizes options a.arena.now _ own (search rules) z,
+    _ room-here (rw c.sizes_of-sizes.ensures at c.in_ok-fresh.ensures.value) in
+    let own = loaded.own-load refl in (
+      room-fresh a.mapper a.submapper a.flags (yes a.in_database) sizes options a.arena.now _ own refl (length a.image.now) room-here,
+      load-known a.mapper a.submapper a.flags (yes a.in_database) sizes options a.arena.now _ own (search rules) refl,
     )
 
 pub returns : goal.returns
@@ -73,20 +73,19 @@ returns c =
     let sizes = sizes_of a.prg_rom a.prg_ram a.battery a.chr a.chr_ram a.ciram in
     let options = options_of a.f800_protects in
     let given = load_gives (length a.image.now) a.arena.now a.mapper a.submapper a.flags a.in_database sizes options in
-    let load = c.load-loaded.ensures in
+    let load = c.in_ok-fresh.ensures in
     let room-here = sym c.room_for.ensures ∙ c.if-not-room_for.false in
     let loaded = load-blocks a.image.now a.arena.now a.directory.now a.mapper a.submapper a.flags (yes a.in_database) sizes options
-    c.load-loaded.result room-here (rw c.sizes_of-sizes.ensures at load.value) in
+    _ room-here (rw c.sizes_of-sizes.ensures at load.value) in
     let checks = load_blocks_checks a.image.now a.arena.now a.directory.now a.mapper sizes options in
     let call = called checks a.image.now a.arena.now given given _ loaded.number refl in
     let arena-left = ap (λ (x : MemoryLayout). load_leaves a.directory.now a.mapper x a.arena.now) c.sizes_of-sizes.ensures in
     let places-left = ap (λ (x : MemoryLayout). load_drops a.directory.now a.mapper x a.arena.now) c.sizes_of-sizes.ensures in
-    let z = c.if-loaded-ne0.false in
-    let e = call.accepted z in
-    let fresh = load_fresh a.mapper a.submapper a.flags (yes a.in_database) sizes options a.arena.now _ (loaded.own-load z) z in
+    let e = call.accepted refl in
+    let fresh = load_fresh a.mapper a.submapper a.flags (yes a.in_database) sizes options a.arena.now _ (loaded.own-load refl) refl in
     record {
       value = word_of e;
       image_after = c.put_image.ensures ∙ ap (image_at (length a.image.now)) fresh ∙ image-of e;
-      arena_after = load.arena_after ∙ arena-left ∙ loaded.arena-loaded z ∙ lent_of e;
+      arena_after = load.arena_after ∙ arena-left ∙ loaded.arena-loaded refl ∙ lent_of e;
       directory_after = load.d_after ∙ places-left ∙ loaded.places-after;
     }

@@ -1,16 +1,18 @@
 -- `namco163_lookup` meets its contract: the parts of what the lookup found.
 use Rattle.std.proofs.Common.{ap, ◌∙◌, arith}
+use Rattle.refusals.proofs.Numbers.{passed-word}
 use Rattle.host.specs.Blocks.{found_word, host_lookup}
 use Rattle.host.proofs.blocks.namco163_lookup.Goals as goal
 
-pub returns-in-Ok-None : goal.returns-in-Ok-None
+pub returns-in_err-lookup : goal.returns-in_err-lookup
 unfolding host_lookup
-returns-in-Ok-None c = ap found_word (rw c.in-Ok-None.field-0-is at c.in-Ok-None.ensures.value)
+returns-in_err-lookup c =
+    passed-word _ _ c.from_residual.ensures.1 ∙ omega (arith, ap found_word c.in_err-lookup.ensures.value)
 
-pub returns-in-Ok-Some : goal.returns-in-Ok-Some
+pub returns-in-Some : goal.returns-in-Some
 unfolding host_lookup
-returns-in-Ok-Some c = c.found_word.ensures ∙ ap found_word (rw c.in-Ok-Some.field-0-is at c.in-Ok-Some.ensures.value)
+returns-in-Some c = c.found_word.ensures ∙ ap found_word (rw c.in-Some.is at c.in_ok-lookup.ensures.value)
 
-pub returns-in-Err : goal.returns-in-Err
+pub returns-in-None : goal.returns-in-None
 unfolding host_lookup
-returns-in-Err c = rw c.number.ensures.0 (omega (arith, ap found_word c.in-Err.ensures.value))
+returns-in-None c = ap found_word (rw c.in-None.is at c.in_ok-lookup.ensures.value)

@@ -1,7 +1,8 @@
 -- `namco163_stored` meets its contract: refused by the image, or on with its state.
 use Prim.Native.Nat.{ℕ}
-use mathlib.Core.Path.{◌≡◌, ◌∙◌}
+use mathlib.Core.Path.{◌≡◌, ◌∙◌, refl}
 use mathlib.Core.List.{List, []}
+use Rattle.refusals.proofs.Numbers.{numbered, passed-word}
 use Rattle.image_read.specs.Reading.{ReadImage}
 use Rattle.image_read.specs.Reading.{read_image}
 use Rattle.call_blocks.specs.Blocks.{with_directory}
@@ -15,23 +16,30 @@ call : (image directory : List ℕ) (offset : ℕ) {r : ReadImage} → r ≡ rea
     → Places image directory (λ s. stored_drops directory s offset) r
 call image directory offset is = places _ _ _ _ is
 
-pub returns-then-read-ne0 : goal.returns-then-read-ne0
+pub returns-in_err-read : goal.returns-in_err-read
 unfolding host_stored host_stored_places
-returns-then-read-ne0 c =
-    let after = call c.args.image.now c.args.directory.now c.args.offset c.read_image-read.ensures in
+returns-in_err-read c =
+    let after = call c.args.image.now c.args.directory.now c.args.offset c.in_err-read.ensures in
     record {
-      value = after.refuses (with_directory c.args.directory.now []) c.if-read-ne0.true;
-      directory_after = after.kept c.if-read-ne0.true;
+      value = passed-word _ _ c.from_residual.ensures.1 ∙ after.refuses (with_directory c.args.directory.now []) (numbered _);
+      directory_after = after.kept (numbered _);
     }
 
-pub stored_on-requires : goal.stored_on-requires
-stored_on-requires c = (call c.args.image.now c.args.directory.now c.args.offset c.read_image-read.ensures).known c.if-read-ne0.false
+pub returns-in_err-stored_on : goal.returns-in_err-stored_on
+unfolding host_stored host_stored_places
+returns-in_err-stored_on c =
+    let after = call c.args.image.now c.args.directory.now c.args.offset c.in_ok-read.ensures in
+    record {
+      value = passed-word _ _ c.from_residual-in_err-stored_on.ensures.1 ∙ c.in_err-stored_on.ensures.value
+          ∙ after.passes (with_directory c.args.directory.now []) refl;
+      directory_after = c.in_err-stored_on.ensures.d_after ∙ after.made refl;
+    }
 
 pub returns : goal.returns
 unfolding host_stored host_stored_places
 returns c =
-    let after = call c.args.image.now c.args.directory.now c.args.offset c.read_image-read.ensures in
+    let after = call c.args.image.now c.args.directory.now c.args.offset c.in_ok-read.ensures in
     record {
-      value = c.stored_on.ensures.value ∙ after.passes (with_directory c.args.directory.now []) c.if-read-ne0.false;
-      directory_after = c.stored_on.ensures.d_after ∙ after.made c.if-read-ne0.false;
+      value = c.in_ok-stored_on.ensures.value ∙ after.passes (with_directory c.args.directory.now []) refl;
+      directory_after = c.in_ok-stored_on.ensures.d_after ∙ after.made refl;
     }

@@ -1,8 +1,9 @@
 -- `namco163_write_blocks` meets its contract: refused by the image, or on with its state.
 use Prim.Native.Nat.{ℕ}
-use mathlib.Core.Path.{◌≡◌, ◌∙◌}
+use mathlib.Core.Path.{◌≡◌, ◌∙◌, refl}
 use mathlib.Core.List.{List}
 use lib.ListN.{length}
+use Rattle.refusals.proofs.Numbers.{numbered, passed-word}
 use Rattle.image_read.specs.Reading.{ReadImage}
 use Rattle.image_read.specs.Reading.{read_image}
 use Rattle.call_blocks.specs.Blocks.{cpu_write_drops}
@@ -22,32 +23,32 @@ module _ (image arena directory : List ℕ) (addr val : ℕ) {r : ReadImage} (is
   drops : Places image directory (λ s. cpu_write_drops directory s arena addr val) r
   drops = places _ _ _ _ is
 
-pub returns-then-read-ne0 : goal.returns-then-read-ne0
+pub returns-in_err-read : goal.returns-in_err-read
 unfolding host_write_blocks host_write_places
-returns-then-read-ne0 c =
+returns-in_err-read c =
     let a = c.args in
-    let e = (call a.image.now a.arena.now a.directory.now a.addr a.val c.read_image-read.ensures).refused c.if-read-ne0.true in
+    let e = (call a.image.now a.arena.now a.directory.now a.addr a.val c.in_err-read.ensures).refused (numbered _) in
     record {
-      value = word_of e;
+      value = passed-word _ _ c.from_residual.ensures.1 ∙ word_of e;
       image_after = image-of e;
       arena_after = lent_of e;
-      directory_after = (drops a.image.now a.arena.now a.directory.now a.addr a.val c.read_image-read.ensures).kept c.if-read-ne0.true;
+      directory_after = (drops a.image.now a.arena.now a.directory.now a.addr a.val c.in_err-read.ensures).kept (numbered _);
     }
 
 pub write_blocks_on-requires : goal.write_blocks_on-requires
 write_blocks_on-requires c =
     let a = c.args in
-    (call a.image.now a.arena.now a.directory.now a.addr a.val c.read_image-read.ensures).good c.if-read-ne0.false
+    ((call a.image.now a.arena.now a.directory.now a.addr a.val c.in_ok-read.ensures).good refl).0
 
 pub returns : goal.returns
 unfolding host_write_blocks host_write_places
 returns c =
     let a = c.args in
-    let s = c.read_image-read.result.state in
+    let s = c.in_ok-read.read.state in
     let e = either-given s a.directory.now (cpu_own s a.arena.now a.addr) a.image.now a.arena.now
     (write_gives (length a.image.now) s a.arena.now a.addr a.val)
-    ∙ (call a.image.now a.arena.now a.directory.now a.addr a.val c.read_image-read.ensures).goes_on c.if-read-ne0.false in
-    let made = (drops a.image.now a.arena.now a.directory.now a.addr a.val c.read_image-read.ensures).made c.if-read-ne0.false in
+    ∙ (call a.image.now a.arena.now a.directory.now a.addr a.val c.in_ok-read.ensures).goes_on refl in
+    let made = (drops a.image.now a.arena.now a.directory.now a.addr a.val c.in_ok-read.ensures).made refl in
     record {
       value = c.write_blocks_on.ensures.value ∙ word_of e;
       image_after = c.write_blocks_on.ensures.image_after ∙ image-of e;

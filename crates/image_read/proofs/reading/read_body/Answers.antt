@@ -1,5 +1,14 @@
 -- `read_body` meets its contract: refused by an unused bit, by `out`, by its mirroring, accepted, refused by its state.
-use mathlib.Core.Path.{◌≡◌, sym, ◌∙◌}
+use mathlib.Core.Path.{◌≡◌, sym}
+use mathlib.Core.Bool.{true, false}
+use Rattle.std.specs.Prelude.{Result, Ok, Err, MatchResult}
+use Rattle.refusals.specs.declared.Refusal.{Refusal}
+use Rattle.refusals.specs.declared.Refusal.TheVariants as Because
+use Rattle.board_state.specs.declared.State.{State}
+use Rattle.board_state.specs.State.{in_range}
+use Rattle.call_refusals.specs.declared.known.KnownState.{KnownState}
+use Rattle.call_refusals.proofs.Laws.{known-range}
+use Rattle.image_read.specs.Reading.{ReadImage, refused_read, read_answer}
 use mathlib.Core.List.{List}
 use Prim.Native.Nat.{ℕ, ◌+◌, ◌-◌, ◌^◌, ◌<◌}
 use native.Mathlib.Omega.{arith}
@@ -32,14 +41,17 @@ returns-then-h-gt4 c =
     let o = opened _ _ _ c.told-img c.fits-img c.read_head-h.ensures.0 c.load-bits.ensures.value c.load-bits.ensures.upper_bound in
     sym (refused-mirroring _ _ c.ranges.options.fits c.if-options-ne0.false _ _ o c.if-h-gt4.true)
 
-pub returns-then-not-in_range : goal.returns-then-not-in_range
-returns-then-not-in_range c =
-    let o = opened _ _ _ c.told-img c.fits-img c.read_head-h.ensures.0 c.load-bits.ensures.value c.load-bits.ensures.upper_bound in
-    sym (refused-range _ _ c.ranges.options.fits c.if-options-ne0.false _ _ o
-    (rw c.read_fields-s.ensures at (sym c.in_range.ensures ∙ c.if-not-in_range.true)))
+-- by whether the state passes
+told : (r : Result KnownState Refusal) (s : State) (w : ReadImage)
+    → MatchResult r (λ k. k.state ≡ s) (λ q. (q ≡ Because.State) × (in_range s ≡ false))
+    → (in_range s ≡ true → record { refusal = 0; state = s } ≡ w) → (in_range s ≡ false → refused_read 2 ≡ w) → read_answer r ≡ w
+told (Ok k) s w e passes fails = rw e (passes (known-range k e))
+told (Err q) s w e passes fails = rw e.0 (fails e.1)
 
 pub returns : goal.returns
 returns c =
     let o = opened _ _ _ c.told-img c.fits-img c.read_head-h.ensures.0 c.load-bits.ensures.value c.load-bits.ensures.upper_bound in
-    let ok = rw c.read_fields-s.ensures at (sym c.in_range.ensures ∙ c.if-not-in_range.false) in
-    rw c.read_fields-s.ensures (sym (accepted-state _ _ c.ranges.options.fits c.if-options-ne0.false _ _ o c.if-h-gt4.false ok))
+    told c.new.result c.read_fields.result _ c.new.ensures
+    (λ i. let ok = rw c.read_fields.ensures at i in
+    rw c.read_fields.ensures (sym (accepted-state _ _ c.ranges.options.fits c.if-options-ne0.false _ _ o c.if-h-gt4.false ok)))
+    (λ i. sym (refused-range _ _ c.ranges.options.fits c.if-options-ne0.false _ _ o (rw c.read_fields.ensures at i)))
