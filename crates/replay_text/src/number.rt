@@ -30,8 +30,8 @@ fn in_base(digits: &[u8], base: u64) -> Option<u64>
 pub fn parse_number(word: &[u8]) -> Option<u64>
     ensures { result ≡ number_of word.now }
 {
-    if !word.is_empty() && word[0] == b'$' {
-        return in_base(&word[1..], 16);
+    match word.strip_prefix(b"$") {
+        Some(digits) => in_base(digits, 16),
+        None => in_base(word, 10),
     }
-    in_base(word, 10)
 }

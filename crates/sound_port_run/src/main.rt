@@ -6,7 +6,7 @@ ghost use Rattle.sound_port_run.specs.Agree.{agree};
 
 use sound::audio::Audio;
 use sound_port::Port;
-use std::{array, io};
+use std::io;
 
 // How many of the bytes are those that as many calls of `read_register` give.
 fn agreeing(audio: Audio, bytes: &[u8]) -> usize
@@ -55,7 +55,7 @@ fn numbered() -> Audio
     ensures { result.addr ≡ 0 }
 {
     Audio {
-        ram: array::from_fn(|i| i as u8),
+        ram: std::array::from_fn(|i| i as u8),
         ..Audio::new()
     }
 }

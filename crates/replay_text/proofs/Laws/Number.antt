@@ -1,7 +1,8 @@
 -- A number's digits at an index. Assumes nothing.
-use Rattle.std.proofs.Common.{ℕ, ◌+◌, ◌≡◌, ◌≤◌, ◌<◌, Some, None, List, [], ◌∷◌, length, get_or, drop, refl, ◌∙◌, arith, drop_of_length-le}
+use Rattle.std.proofs.Common.{ℕ, ◌+◌, ◌≡◌, ◌≤◌, ◌<◌, ◌==◌, ◌&&◌, Some, None, Bool, true, false, cond, refl, ◌∙◌, arith}
+use Rattle.std.proofs.Common.{List, [], ◌∷◌, length, get_or, take, drop, drop_of_length-le}
 use Rattle.std.proofs.lemmas.List.{drop_more}
-use Rattle.std.proofs.lemmas.Bool.{eq-eqb, ne_eqb}
+use lib.Pointwise.{pointwise}
 use Rattle.std.specs.Option.{option_and_then}
 use Rattle.replay_text.specs.Hex.{digit_of}
 use Rattle.replay_text.specs.Number.{one_more, digits_after, in_base, number_of}
@@ -38,12 +39,12 @@ module _ (base n : ℕ) (l : List ℕ) (i : ℕ) (h : i < length l) where
       → digits_after base n (drop i l) ≡ digits_after base m (drop (i + 1) l)
   a-number e f = digits-next base n l i h ∙ rw (e, f)
 
-pub number-hex : (l : List ℕ) → 0 < length l → get_or l 0 0 ≡ 36 → number_of l ≡ in_base 16 (drop 1 l)
-unfolding number_of
-number-hex [] h e = absurd (omega arith)
-number-hex (b ∷ l) h e = rw (eq-eqb b 36 e)
-
-pub number-decimal : (l : List ℕ) → (0 < length l → get_or l 0 0 ≡ 36 → ⊥) → number_of l ≡ in_base 10 l
+-- by whether the word begins with a `$`
+pub number-cut : (l : List ℕ) → number_of l ≡ cond (pointwise ◌==◌ (take 1 l) (36 ∷ [])) (in_base 16 (drop 1 l)) (in_base 10 l)
 unfolding number_of in_base
-number-decimal [] h = refl
-number-decimal (b ∷ l) h = rw (ne_eqb b 36 (h (omega arith)))
+number-cut [] = refl
+number-cut (b ∷ l) = go (b == 36)
+  where
+    go : (t : Bool) → cond t (in_base 16 l) (in_base 10 (b ∷ l)) ≡ cond (t && true) (in_base 16 l) (in_base 10 (b ∷ l))
+    go true = refl
+    go false = refl
