@@ -3,9 +3,8 @@ use Prim.Native.Nat.{ℕ, zero, suc, ◌+◌, ◌-◌, ◌*◌, ◌^◌, ◌≤�
 use mathlib.Core.Path.{◌≡◌, refl}
 use mathlib.Core.Bool.{Bool, true, false, cond}
 use native.Mathlib.Omega.{arith}
-use native.Mathlib.Nat.{pow-suc, lt_of_lt_of_le}
+use native.Mathlib.Nat.{pow-suc}
 use native.Mathlib.Numerals.{sub-one}
-use lib.Pow.{pow_mono}
 use mir.Val.{bool_byte}
 use Rattle.memory.specs.Mask.{mask_from}
 
@@ -24,10 +23,6 @@ pub mask-room : (count i m : ℕ) (b : Bool) → 0 < i → i ≤ count → m < 2
 mask-room count i m b some within room =
     let e : count - (i - 1) ≡ suc (count - i) = omega arith in
     rw (e, pow-suc) (omega (arith, bit_le b))
-
-pub mask-fits : (count i m : ℕ) (b : Bool) → 0 < i → i ≤ count → count ≤ 64 → m < 2 ^ (count - i) → m * 2 + bool_byte b < 2 ^ 64
-mask-fits count i m b some within small room =
-    lt_of_lt_of_le (mask-room count i m b some within room) (pow_mono {i = count - (i - 1)} {j = 64} (omega arith))
 
 -- one more entry at the front
 pub mask-next : (p : ℕ → Bool) (count i m : ℕ) → 0 < i → i ≤ count → m ≡ mask_from p i (count - i)
