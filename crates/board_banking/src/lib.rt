@@ -1,4 +1,5 @@
-// The page tables by the registers.
+// The page tables by the registers. `Sized` stands in each contract, not in the type: a `Memory` is plain data that a host's image fills
+// before any test of it (N2).
 #![tactic(auto)]
 
 ghost use Rattle.std.specs.Prelude.{◌≡◌, cond, ◌+◌, ◌≤◌, ◌<◌};

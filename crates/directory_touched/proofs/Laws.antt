@@ -5,17 +5,14 @@ use mathlib.Core.Bool.{Bool, true, false, cond, not, ◌&&◌, ◌||◌}
 use mathlib.Core.List.{List, [], ◌∷◌}
 use mathlib.Core.Option.{Option, some, none}
 use native.Mathlib.Omega.{arith}
-use native.Mathlib.Nat.{pow-suc, mul_comm, div-div-eq-div-mul, zero-div, lt_of_lt_of_le}
-use native.Mathlib.Numerals.{sub-one}
+use native.Mathlib.Nat.{pow-suc, mul_comm, div-div-eq-div-mul, zero-div}
 use borrow.Author.Tests.{eq-eqb, eqb-true, le-leb, not-false}
 use lib.Bits.{bit_or, or_zero_l}
 use lib.Dec.{eqb}
-use lib.ListN.{length, get_or, drop, length-drop, drop_of_length-le}
-use lib.Seq.{drop-cons}
-use lib.Pow.{pow_mono}
-use mir.Val.{bool_byte}
+use lib.ListN.{length, get_or}
 use Rattle.memory.specs.declared.page.Page.{Page}
 use Rattle.memory_bytes.specs.Bytes.{shown_at, store}
+use Rattle.memory.specs.Mask.{mask_from}
 use Rattle.memory.specs.Changes.{same, changed}
 use Rattle.memory.specs.Page.{has_bit, unmapped, offset_of}
 use Rattle.memory_bytes.proofs.Laws.Bytes.{store_other}
@@ -25,55 +22,22 @@ use Rattle.directory.specs.Drop.{some_below, goes}
 use Rattle.directory.proofs.Laws.Bits.{bit-or}
 use Rattle.directory_touched.specs.Touched.{shows_byte, shows, touched_at, shown_mask, shown_by, touched}
 
--- ---- the mask as the loop makes it
+-- ---- the mask of a test of each index from k on
 
-pub bit_le : (b : Bool) → cond b 1 0 ≤ 1
+pub shown-mask : (p : ℕ → Bool) (k : ℕ) (ps : List Page) (byte : ℕ)
+    → ((i : ℕ) → i < length ps → p (k + i) ≡ shows_byte (get_or ps i unmapped) byte) → mask_from p k (length ps) ≡ shown_mask ps byte
+unfolding mask_from shown_mask
+shown-mask p k [] byte h = refl
+shown-mask p k (a ∷ ps) byte h =
+    let here : p k ≡ shows_byte a byte = (let z : k + 0 ≡ k = omega arith in rw z at (h 0 (omega arith))) in
+    rw (shown-mask p (suc k) ps byte shifted, here)
+  where
+    shifted : (i : ℕ) → i < length ps → p (suc k + i) ≡ shows_byte (get_or ps i unmapped) byte
+    shifted i l = let s : k + suc i ≡ suc k + i = omega arith in rw s at (h (suc i) (omega arith))
+
+bit_le : (b : Bool) → cond b 1 0 ≤ 1
 bit_le true = omega arith
 bit_le false = omega arith
-
--- the bit that a test makes
-pub bit-of_bool : (b : Bool) → bool_byte b ≡ cond b 1 0
-bit-of_bool true = refl
-bit-of_bool false = refl
-
-shown-lt : (ps : List Page) (i : ℕ) → shown_mask ps i < 2 ^ length ps
-unfolding shown_mask
-shown-lt [] i = omega arith
-shown-lt (p ∷ ps) i = rw (pow-suc 2 (length ps)) (omega (arith, shown-lt ps i, bit_le (shows_byte p i)))
-
-pub record MaskFrom (ps : List Page) (byte i mask : ℕ) : Type 0 where
-  pub within : i ≤ 64
-  pub long : length ps ≡ 64
-  pub made : mask ≡ shown_mask (drop i ps) byte
-
-pub mask-none : {ps : List Page} (byte : ℕ) → length ps ≡ 64 → MaskFrom ps byte 64 0
-unfolding shown_mask
-mask-none {ps} byte l =
-    record { within = omega arith; long = l; made = (let h : length ps ≤ 64 = omega arith in rw (drop_of_length-le ps h)) }
-
-pub mask-room : {ps : List Page} {byte i mask : ℕ} → MaskFrom ps byte i mask → 0 < i → mask * 2 + 1 < 2 ^ 64
-mask-room {ps} {byte} {i} m on =
-    let l : length (drop i ps) ≤ 63 = rw (length-drop i ps) (omega (arith, m.long)) in
-    let h : shown_mask (drop i ps) byte < 2 ^ 63 = lt_of_lt_of_le (shown-lt (drop i ps) byte) (pow_mono l) in
-    rw m.made (omega arith)
-
-step : (ps : List Page) (byte i : ℕ) → 0 < i → i ≤ length ps
-    → shown_mask (drop i ps) byte * 2 + cond (shows_byte (get_or ps (i - 1) unmapped) byte) 1 0 ≡ shown_mask (drop (i - 1) ps) byte
-unfolding shown_mask
-step ps byte zero z h = absurd (omega arith)
-step ps byte (suc i) z h = rw (sub-one, drop-cons ps i unmapped h)
-
-pub mask_next : {ps : List Page} {byte i mask : ℕ} → MaskFrom ps byte i mask → 0 < i
-    → MaskFrom ps byte (i - 1) (mask * 2 + cond (shows_byte (get_or ps (i - 1) unmapped) byte) 1 0)
-mask_next {ps} {byte} {i} m on =
-    record {
-      within = omega (arith, m.within);
-      long = m.long;
-      made = rw m.made (step ps byte i on (omega (arith, m.within, m.long)));
-    }
-
-pub mask-whole : {ps : List Page} {byte i mask : ℕ} → MaskFrom ps byte i mask → i ≡ 0 → mask ≡ shown_mask ps byte
-mask-whole m end = rw end at m.made
 
 -- ---- what its bits say
 

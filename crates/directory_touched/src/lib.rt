@@ -10,6 +10,7 @@ ghost use Rattle.directory_touched.specs.Touched.{shows_byte, shown_mask, shown_
 
 use memory::Memory;
 use memory::layout::Src;
+use memory::mask::mask_of;
 use memory::page::Page;
 use memory_bytes::bytes::{chr_entry, prg_entry, stored_at, wrapped_at};
 
@@ -20,15 +21,11 @@ fn shows(page: Page, byte: usize) -> bool
     page.offset() / 1024 == byte / 1024
 }
 
-// From the last entry down, so that entry 0 ends in bit 0.
+// The pages that show the arena page of a byte.
 pub fn shown_mask(pages: [Page; 64], byte: usize) -> u64
     ensures { result ≡ shown_mask pages byte }
 {
-    let mut mask: u64 = 0;
-    for i in (0..64).rev() {
-        mask = mask * 2 + shows(pages[i], byte) as u64;
-    }
-    mask
+    mask_of(64, |i| shows(pages[i], byte))
 }
 
 // The pages that show the byte at a place, if there is one.

@@ -3,4 +3,5 @@ pub mod Page
 pub mod Layout
 pub mod Range
 pub mod Typed
+pub mod Mask
 pub mod Changes

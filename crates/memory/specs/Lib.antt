@@ -4,4 +4,5 @@ pub mod Layout
 pub mod Memory
 pub mod Mirroring
 pub mod Range
+pub mod Mask
 pub mod Changes

@@ -1,8 +1,10 @@
 // Which entries of a page table changed: as a mask, how many, and the first.
-ghost use Rattle.std.specs.Prelude.{◌≤◌, ◌≡◌};
-ghost use Rattle.memory.specs.Changes.{changed, table_changes, prg_changes, chr_changes, changes};
+ghost use Rattle.std.specs.Prelude.{◌<◌, ◌≤◌, ◌≡◌, not, get_or};
+ghost use Rattle.memory.specs.Page.{unmapped};
+ghost use Rattle.memory.specs.Changes.{same, changed, table_changes, prg_changes, chr_changes, changes};
 
 use crate::Memory;
+use crate::mask::mask_of;
 use crate::page::Page;
 
 // The mask is as wide as the table has entries.
@@ -37,16 +39,16 @@ impl Changed {
     };
 }
 
-// From the last entry down, so that entry 0 ends in bit 0. An entry differs in its flag too.
+// An entry differs in its flag too.
 fn changed_mask<const N: usize>(old: &[Page; N], new: &[Page; N]) -> u64
     requires { N ≤ 64 }
     ensures { result ≡ changed old.now new.now }
 {
-    let mut mask: u64 = 0;
-    for i in (0..N).rev() {
-        mask = mask * 2 + (old[i] != new[i]) as u64;
-    }
-    mask
+    let differs = |i: usize| -> bool
+        requires { i < N }
+        ensures { result ≡ not (same (get_or old.entry.now i unmapped) (get_or new.entry.now i unmapped)) }
+    { old[i] != new[i] };
+    mask_of(N, differs)
 }
 
 // What changed between two tables.

@@ -17,7 +17,7 @@ pub struct MemoryLayout {
     pub ciram: u64,
 }
 
-// The same in pages.
+// The same in pages. Two types, and not one of the number's type: so no count of bytes stands where one of pages is meant.
 #[derive(Clone, Copy)]
 pub struct Layout {
     pub prg_rom: usize,
@@ -88,7 +88,7 @@ impl Layout {
         }
     }
 
-    // The arena's length in bytes.
+    // The arena's length in bytes. `GoodLayout` is asked and not kept in the type, since an image fills a layout before N2 tests it.
     pub fn arena_len(self) -> usize
         requires { GoodLayout self }
         ensures { (result ≡ arena_len self) × (result ≤ arena_most) }

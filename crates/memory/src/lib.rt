@@ -11,6 +11,7 @@ use page::Page;
 
 pub mod changes; // changes.rt: which entries changed
 pub mod layout; // layout.rt: sizes, page counts and regions
+pub mod mask; // mask.rt: a bit for each entry that passes a test
 pub mod mirroring; // mirroring.rt: the kinds of nametable mirroring
 pub mod page; // page.rt: a page entry
 pub mod range; // range.rt: whether a memory is in range

@@ -59,7 +59,7 @@ each_page k f slot (suc n) l =
 abbrev pub StepIs : (ℕ → Page → Page → Type 0) → (ℕ → Page → Page) → ℕ → Type 0
 StepIs answers f n = (i : ℕ) (old new : Page) → i < n → answers i old new → new ≡ f i old
 
--- a window is one page to the whole CPU space long
+-- a window is one page to the whole CPU space long; the code asks no more of a size than that it is above 0
 pub record WindowSize (s : ℕ) : Type 0 where
   pub some : 1024 ≤ s
   pub small : s ≤ 65536

@@ -12,7 +12,7 @@ pub fn each_page<const N: usize, F: Fn(usize, Page) -> Page>(
     step: F,
 )
     requires some { 0 < N }
-    requires small { slot + count < 2 ^ 32 }
+    requires small { slot + count < 2 ^ 64 }
     requires callable { (i : ℕ) (p : Page) → i < count → F.pre step i p }
     ensures { (f : ℕ → Page → Page) → StepIs (F.post step) f count → pages.new ≡ each_page N f slot count pages.old }
 {

@@ -1,6 +1,7 @@
 // Windows of the two address spaces: banks of a region mapped into a page table.
+// `Sized` stands in each contract, not in the type: a `Memory` is plain data that a host's image fills before any test of it (N2).
 ghost use Rattle.std.specs.Prelude.{◌+◌, ◌*◌, ◌/◌, ◌^◌, ◌≤◌, ◌<◌, ◌≡◌};
-ghost use Rattle.memory_map.specs.Windows.{banks_of, window_base, region_page, with_flag, WindowSize};
+ghost use Rattle.memory_map.specs.Windows.{banks_of, window_base, region_page, with_flag};
 ghost use Rattle.memory_map.specs.Windows.{map_pages, map_prg, unmap_prg, set_prg_writable};
 ghost use Rattle.limits.specs.Limits.{arena_most};
 ghost use Rattle.memory.specs.Range.{Sized};
@@ -48,7 +49,7 @@ pub fn with_flag(page: Page, writable: bool) -> Page
     Page::new(page.offset(), writable)
 }
 
-// A table after a window of it shows a bank of a region; −1 is the last bank.
+// A window of a table shows a bank of a region; −1 is the last bank.
 pub fn map_pages<const N: usize>(
     pages: &mut [Page; N],
     addr: u16,
@@ -56,12 +57,12 @@ pub fn map_pages<const N: usize>(
     bank: i32,
     region: Region,
 )
-    requires { (0 < N) × (N ≤ 64) × (region.start + region.len ≤ arena_most) × (WindowSize size) }
+    requires { (0 < N) × (N ≤ 64) × (region.start + region.len ≤ arena_most) × (0 < size) }
     ensures { pages.new ≡ map_pages N region size bank (addr / 1024) pages.old }
 {
     let base = window_base(region.len, size, bank);
     let shown = |i: usize, _: Page|
-        requires { (region.start + region.len < 2 ^ 30) × (base + 1024 * i < 2 ^ 32) }
+        requires { (region.start + region.len < 2 ^ 30) × (base + 1024 * i < 2 ^ 64) }
         ensures { result ≡ region_page region (base + 1024 * i) }
     { region_page(region, base + 1024 * i) };
     each_page(pages, (addr / 1024) as usize, size / 1024, shown);
@@ -69,7 +70,7 @@ pub fn map_pages<const N: usize>(
 
 // Maps a window of the CPU's address space to a bank of a region.
 pub fn map_prg(m: &mut Memory, addr: u16, size: usize, bank: i32, src: Src)
-    requires { (Sized m.old) × (WindowSize size) }
+    requires { (Sized m.old) × (0 < size) }
     ensures { (m.new ≡ map_prg m.old addr size bank src) × (Sized m.new) }
 {
     let region = m.region(src);
@@ -78,7 +79,7 @@ pub fn map_prg(m: &mut Memory, addr: u16, size: usize, bank: i32, src: Src)
 
 // A window of the CPU's address space shows the zero page and drops writes.
 pub fn unmap_prg(m: &mut Memory, addr: u16, size: usize)
-    requires { (Sized m.old) × (WindowSize size) }
+    requires { Sized m.old }
     ensures { (m.new ≡ unmap_prg m.old addr size) × (Sized m.new) }
 {
     each_page(
@@ -91,7 +92,7 @@ pub fn unmap_prg(m: &mut Memory, addr: u16, size: usize)
 
 // Whether a window takes writes, for boards that protect PRG-RAM.
 pub fn set_prg_writable(m: &mut Memory, addr: u16, size: usize, writable: bool)
-    requires { (Sized m.old) × (WindowSize size) }
+    requires { Sized m.old }
     ensures { (m.new ≡ set_prg_writable m.old addr size writable) × (Sized m.new) }
 {
     each_page(

@@ -1,21 +1,20 @@
--- The mask so far is that of the entries from i on.
+-- The mask of the test whether an entry shows the byte.
+use mathlib.Core.Path.{◌≡◌, ◌∙◌}
+use mathlib.Core.Bool.{Bool}
+use Prim.Native.Nat.{ℕ, ◌+◌}
 use native.Mathlib.Omega.{arith}
 use borrow.Author.Rules.{rules}
-use Rattle.directory_touched.proofs.Laws.{mask-none, mask-room, mask_next, mask-whole, bit_le, bit-of_bool}
+use lib.ListN.{length, get_or}
+use Rattle.memory.specs.Mask.{mask_from}
+use Rattle.memory.specs.Page.{unmapped}
+use Rattle.directory_touched.specs.Touched.{shows_byte, shown_mask}
+use Rattle.directory_touched.proofs.Laws.{shown-mask}
 use Rattle.directory_touched.proofs.shown_mask.Goals as goal
 
-pub loop-i-init : goal.loop-i-init
-loop-i-init c = mask-none c.args.byte (search rules)
-
-pub overflow_mul-mask : goal.overflow_mul-mask
-overflow_mul-mask c = record { fits = omega (arith, mask-room c.loop-i.invariant (omega arith)) }
-
-pub overflow_add-mask : goal.overflow_add-mask
-overflow_add-mask c =
-    record { fits = rw (c.shows.ensures, bit-of_bool) (omega (arith, mask-room c.loop-i.invariant (omega arith), bit_le)) }
-
-pub loop-i-preserved : goal.loop-i-preserved
-loop-i-preserved c = rw (c.shows.ensures, bit-of_bool) (mask_next c.loop-i.invariant (omega arith))
-
 pub returns : goal.returns
-returns c = mask-whole c.loop-i.invariant (omega arith)
+returns c =
+    let shows : ℕ → Bool = λ i. shows_byte (get_or c.args.pages i unmapped) c.args.byte in
+    let e : length c.args.pages ≡ 64 = search rules in
+    let whole : mask_from shows 0 (length c.args.pages) ≡ shown_mask c.args.pages c.args.byte =
+    shown-mask shows 0 _ _ (λ i h. let z : 0 + i ≡ i = omega arith in rw z) in
+    c.mask_of.ensures shows (λ i b h e. search rules) ∙ rw e at whole

@@ -1,22 +1,20 @@
 -- L15, F9: mask, count and lowest entry say of a table of any length which entries differ, and the machine's counts of the mask are those
 -- of the entries. Assumes nothing.
-use Prim.Native.Nat.{ℕ, zero, suc, ◌+◌, ◌-◌, ◌*◌, ◌/◌, ◌%◌, ◌^◌, ◌≤◌, ◌<◌}
+use Prim.Native.Nat.{ℕ, zero, suc, ◌+◌, ◌*◌, ◌/◌, ◌%◌, ◌^◌, ◌≤◌, ◌<◌}
 use mathlib.Core.Path.{◌≡◌, refl, ap, ap₂, sym, ◌∙◌}
 use mathlib.Core.Bool.{Bool, true, false, cond, not}
 use mathlib.Core.List.{List, [], ◌∷◌}
 use native.Mathlib.Omega.{arith}
-use native.Mathlib.Nat.{pow-suc, mul_comm, div-div-eq-div-mul, lt_of_lt_of_le}
+use native.Mathlib.Nat.{pow-suc, mul_comm, div-div-eq-div-mul}
 use Rattle.std.proofs.Math.Nat.{min-zero, zero-min}
 use Rattle.std.specs.Prelude.{min}
-use native.Mathlib.Numerals.{sub-one}
 use borrow.Author.Tests.{eqb-true, eqb-false}
 use lib.Dec.{eqb}
-use lib.ListN.{length, get_or, drop, length-drop, drop_of_length-le}
-use lib.Seq.{drop-cons}
-use lib.Pow.{pow_mono, pow_pos}
+use lib.ListN.{length, get_or}
+use lib.Pow.{pow_pos}
 use lib.Count.{ones, ones-ones, ones_cat, count_trailing_zeros, trailing_of_zero, under}
-use mir.Val.{bool_byte}
 use Rattle.memory.specs.declared.page.Page.{Page}
+use Rattle.memory.specs.Mask.{mask_from}
 use Rattle.memory.specs.Changes.{same, differ, changed, count_changed, lowest_changed}
 use Rattle.memory.specs.Page.{has_bit, unmapped}
 
@@ -27,7 +25,7 @@ differ-le a b = go (same a b)
     go true = omega arith
     go false = omega arith
 
--- ---- the mask as a loop makes it, from the last entry down
+-- ---- the mask
 
 pub changed-lt : (old new : List Page) → changed old new < 2 ^ length old
 unfolding changed
@@ -35,65 +33,23 @@ changed-lt [] new = omega arith
 changed-lt (a ∷ old) [] = pow_pos (suc (length old))
 changed-lt (a ∷ old) (b ∷ new) = rw pow-suc (omega (arith, changed-lt old new, differ-le a b))
 
--- past the end of both tables
-changed-none : (old new : List Page) (n : ℕ) → length old ≤ n → 0 ≡ changed (drop n old) (drop n new)
-unfolding changed
-changed-none old new n h = rw (drop_of_length-le old h)
-
--- one more entry at the front of what is left
-changed-step : (old new : List Page) (i : ℕ) → 0 < i → i ≤ length old → i ≤ length new
-    → changed (drop i old) (drop i new) * 2 + differ (get_or old (i - 1) unmapped) (get_or new (i - 1) unmapped)
-    ≡ changed (drop (i - 1) old) (drop (i - 1) new)
-unfolding changed
-changed-step old new zero z h k = absurd (omega arith)
-changed-step old new (suc i) z h k = rw (sub-one, drop-cons old i unmapped h, drop-cons new i unmapped k)
-
--- the mask of what is left, in as many bits as entries are left
-changed-below : (old new : List Page) (i k : ℕ) → length old ≤ i + k → changed (drop i old) (drop i new) < 2 ^ k
-changed-below old new i k h =
-    lt_of_lt_of_le (changed-lt (drop i old) (drop i new)) (pow_mono (rw (length-drop i old) (omega arith)))
-
--- what such a loop has made over two tables of k entries when it has come down to entry i: the mask of the entries from i on
-pub record MaskFrom (k : ℕ) (old new : List Page) (i mask : ℕ) : Type 0 where
-  pub within : i ≤ k
-  pub old_length : length old ≡ k
-  pub new_length : length new ≡ k
-  pub made : mask ≡ changed (drop i old) (drop i new)
-
-pub mask-none : {k : ℕ} {old new : List Page} → length old ≡ k → length new ≡ k → MaskFrom k old new k 0
-mask-none {k} {old} {new} p q =
-    record { within = omega arith; old_length = p; new_length = q; made = changed-none old new k (omega arith) }
-
--- the next bit fits into k bits
-pub mask-room : (k : ℕ) {old new : List Page} {i mask : ℕ} → MaskFrom k old new i mask → 0 < i → mask * 2 + 1 < 2 ^ k
-mask-room zero m some = absurd (omega arith)
-mask-room (suc k) {old} {new} {i} m some =
-    rw (pow-suc, m.made) (omega (arith, changed-below old new i k (omega arith)))
-
--- and so into 64
-pub mask-fits : {k : ℕ} {old new : List Page} {i mask : ℕ} → MaskFrom k old new i mask → k ≤ 64 → 0 < i → mask * 2 + 1 < 2 ^ 64
-mask-fits {k} m h some = lt_of_lt_of_le (mask-room k m some) (pow_mono h)
-
--- the bit that the test of two entries makes
-pub differ-bit : (a b : Page) → bool_byte (not (same a b)) ≡ differ a b
-differ-bit a b = go (same a b)
+-- the mask of the entries that differ, by a test of each index from k on
+pub changed-mask : (p : ℕ → Bool) (k : ℕ) (old new : List Page) → length old ≡ length new
+    → ((i : ℕ) → i < length old → p (k + i) ≡ not (same (get_or old i unmapped) (get_or new i unmapped)))
+    → mask_from p k (length old) ≡ changed old new
+unfolding mask_from changed
+changed-mask p k [] new e h = refl
+changed-mask p k (a ∷ old) [] e h = absurd (omega arith)
+changed-mask p k (a ∷ old) (b ∷ new) e h =
+    let here : p k ≡ not (same a b) = (let z : k + 0 ≡ k = omega arith in rw z at (h 0 (omega arith))) in
+    rw (changed-mask p (suc k) old new (omega arith) shifted, here, flip (same a b))
   where
-    go : (t : Bool) → bool_byte (not t) ≡ cond t 0 1
-    go true = refl
-    go false = refl
+    shifted : (i : ℕ) → i < length old → p (suc k + i) ≡ not (same (get_or old i unmapped) (get_or new i unmapped))
+    shifted i l = let s : k + suc i ≡ suc k + i = omega arith in rw s at (h (suc i) (omega arith))
 
-pub mask_next : {k : ℕ} {old new : List Page} {i mask : ℕ} → MaskFrom k old new i mask → 0 < i
-    → MaskFrom k old new (i - 1) (mask * 2 + differ (get_or old (i - 1) unmapped) (get_or new (i - 1) unmapped))
-mask_next {k} {old} {new} {i} m some =
-    record {
-      within = omega arith;
-      old_length = m.old_length;
-      new_length = m.new_length;
-      made = rw m.made (changed-step old new i some (omega arith) (omega arith));
-    }
-
-pub mask-whole : {k : ℕ} {old new : List Page} {i mask : ℕ} → MaskFrom k old new i mask → i ≡ 0 → mask ≡ changed old new
-mask-whole m end = rw end at m.made
+    flip : (t : Bool) → ◌≡◌ {A = ℕ} (cond (not t) 1 0) (cond t 0 1)
+    flip true = refl
+    flip false = refl
 
 -- ---- the machine's counts of a mask
 

@@ -8,6 +8,7 @@ use native.Mathlib.Numerals.{add-one}
 use native.Mathlib.Nat.{suc-mul, div-add-mod', mod-lt, le_trans, mul-le-mul_right, div-mul-le_self}
 use lib.IntN.{ℤ, pos, negsuc}
 use lib.ListN.{length, length-set, get_or, set}
+use Rattle.std.specs.Prelude.{max}
 use Rattle.std.specs.Int.{int_rem_euclid}
 use Rattle.std.proofs.Math.Nat.{div-le_self}
 use Rattle.limits.specs.Limits.{arena_most}
@@ -70,3 +71,22 @@ unfolding window_base banks_of
 base-le len s b =
     let k : modulo b (banks_of len s) ≤ len / s = omega (arith, modulo-lt b (banks_of len s) (banks-pos len s)) in
     le_trans (mul-le-mul_right s k) (div-mul-le_self len s)
+
+-- and so does its window, unless the region is shorter than one
+banks-fit : (len s : ℕ) → banks_of len s * s ≤ max len s
+unfolding banks_of
+banks-fit len s = go (len / s) refl
+  where
+    go : (q : ℕ) → len / s ≡ q → max 1 q * s ≤ max len s
+    go zero e = let o : max 1 0 ≡ 1 = omega arith in rw o (omega arith)
+    go (suc q) e =
+        let o : max 1 (suc q) ≡ suc q = omega arith in
+        let f : suc q * s ≤ len = rw e at (div-mul-le_self len s) in
+        rw o (omega (arith, f))
+
+pub base-window : (len s : ℕ) (b : ℤ) → window_base len s b + s ≤ max len s
+unfolding window_base
+base-window len s b =
+    let k : suc (modulo b (banks_of len s)) ≤ banks_of len s = modulo-lt b (banks_of len s) (banks-pos len s) in
+    let f : modulo b (banks_of len s) * s + s ≤ banks_of len s * s = rw suc-mul at (mul-le-mul_right s k) in
+    omega (arith, f, banks-fit len s)

@@ -3,11 +3,12 @@ use native.Mathlib.Omega.{arith}
 use Prim.Native.Nat.{ℕ, ◌+◌, ◌*◌}
 use mir.Facts.{to_z-of_z}
 use Rattle.memory.specs.declared.page.Page.{Page}
+use Rattle.memory_map.proofs.Laws.Windows.{base-window}
 use Rattle.memory_map.specs.Windows.{region_page, map_pages, show_pages}
 use Rattle.memory_map.proofs.windows.map_pages.Goals as goal
 
 pub each_page-requires : goal.each_page-requires
-each_page-requires g c = (omega arith, (omega arith, (omega arith, λ i p h. (omega arith, omega arith))))
+each_page-requires g c = (omega arith, (omega arith, (omega arith, λ i p h. (omega arith, omega (arith, base-window)))))
 
 pub returns : goal.returns
 unfolding map_pages show_pages
