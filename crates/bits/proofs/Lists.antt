@@ -1,7 +1,7 @@
 -- Lists element by element: a list of a known length, and what holds of each element.
 use mathlib.Core.Path.{◌≡◌, refl, ap, ◌∙◌}
-use mathlib.Core.List.{List, [], ◌∷◌, map}
-use Prim.Native.Nat.{ℕ, zero, suc, ◌≤◌, ◌<◌}
+use mathlib.Core.List.{List, [], ◌∷◌}
+use Prim.Native.Nat.{ℕ, zero, suc, ◌≤◌}
 use native.Mathlib.Omega.{arith}
 use lib.ListN.{length, take, get_or}
 use lib.Seq.{take_all}
@@ -22,11 +22,6 @@ pub listed-is : {A : Type 0} (d : A) (n : ℕ) (xs : List A) → length xs ≡ n
 listed-is d n xs e = listed-take d n xs (omega arith) ∙ take_all n xs (omega arith)
 
 -- ---- what holds of each element
-
-pub get_d_map : {A B : Type 0} (f : A → B) (xs : List A) (i : ℕ) (d : A) (e : B) → i < length xs → get_or (map f xs) i e ≡ f (get_or xs i d)
-get_d_map f [] i d e h = absurd (let z : ⊥ = omega arith in z)
-get_d_map f (x ∷ xs) zero d e h = refl
-get_d_map f (x ∷ xs) (suc i) d e h = get_d_map f xs i d e (omega arith)
 
 pub holds-take : {A : Type 0} (P : A → Type 0) (n : ℕ) (xs : List A) (d : A) → P d → ((k : ℕ) → P (get_or xs k d)) → (k : ℕ)
     → P (get_or (take n xs) k d)

@@ -1,4 +1,4 @@
-// A bit cursor by value: fields of any number of bits, most significant first, whole bytes stored or taken as they fill.
+// A bit cursor: fields of any number of bits, most significant first, whole bytes stored or taken as they fill.
 ghost use Rattle.std.specs.Prelude.{◌+◌, ◌*◌, ◌^◌, ◌<◌, ◌≤◌, ◌≡◌, [], ◌∷◌, length, replicate};
 ghost use Rattle.bits.specs.Fields.{Fit};
 ghost use Rattle.bits.specs.Words.{eights};
@@ -15,113 +15,87 @@ pub struct Cursor {
     pub at: usize,
 }
 
-// A field that was read, and the place after it.
-#[derive(Clone, Copy)]
-pub struct Got {
-    pub v: u64,
-    pub next: Cursor,
-}
-
-// Writes v in width bits.
-pub fn put(img: &mut [u8], w: Cursor, width: usize, v: u64) -> Cursor
-    requires held { Held w }
-    requires width_bound { (width ≤ 56) × (v < 2 ^ width) × (w.at * 8 + w.n + width ≤ length img.old * 8) }
-    ensures { Wrote img.old img.new w result (width ∷ []) (v ∷ []) }
-{
-    let held: u64 = w.acc;
-    let at: usize = w.at;
-    let n: usize = w.n + width;
-    let m: usize = n % 8;
-    let k: usize = n / 8;
-    let acc: u64 = (held << width) + v;
-    store(img, at, k, acc >> m);
-    Cursor {
-        acc: low(acc, m),
-        n: m,
-        at: at + k,
+impl Cursor {
+    // The start of a byte.
+    pub fn at_byte(at: usize) -> Cursor
+        ensures { result ≡ record { acc = 0; n = 0; at = at } }
+    {
+        Cursor { acc: 0, n: 0, at }
     }
-}
 
-// Reads width bits.
-pub fn get(img: &[u8], r: Cursor, width: usize) -> Got
-    requires behind { Behind img.now r }
-    requires width_bound { (width ≤ 56) × (r.at * 8 + width ≤ length img.now * 8 + r.n) }
-    ensures { Read img.now r result.next (width ∷ []) (result.v ∷ []) }
-{
-    let held: u64 = r.acc;
-    let at: usize = r.at;
-    let n: usize = r.n;
-    let k: usize = (width + 7 - n) / 8;
-    let acc: u64 = load(img, at, k, held);
-    let m: usize = n + k * 8 - width;
-    let v: u64 = acc >> m;
-    Got {
-        v: v,
-        next: Cursor {
+    // Writes v in width bits.
+    pub fn put(&mut self, img: &mut [u8], width: usize, v: u64)
+        requires held { Held self.old }
+        requires width_bound { (width ≤ 56) × (v < 2 ^ width) × (self.old.at * 8 + self.old.n + width ≤ length img.old * 8) }
+        ensures { Wrote img.old img.new self.old self.new (width ∷ []) (v ∷ []) }
+    {
+        let n = self.n + width;
+        let m = n % 8;
+        let k = n / 8;
+        let acc = (self.acc << width) + v;
+        store(img, self.at, k, acc >> m);
+        *self = Cursor {
             acc: low(acc, m),
             n: m,
-            at: at + k,
-        },
+            at: self.at + k,
+        };
     }
-}
 
-// Writes each of xs in width bits.
-pub fn put_run(img: &mut [u8], w: Cursor, width: usize, xs: &[u32]) -> Cursor
-    requires held { Held w }
-    requires width_bound { (width ≤ 56) × Fit (replicate (length xs.now) width) xs.now
-        × (w.at * 8 + w.n + length xs.now * width ≤ length img.old * 8) }
-    ensures { Wrote img.old img.new w result (replicate (length xs.now) width) xs.now }
-{
-    let mut c = w;
-    let mut i: usize = 0;
-    while i < xs.len() {
-        c = put(img, c, width, xs[i] as u64);
-        i += 1;
+    // Reads width bits.
+    pub fn get(&mut self, img: &[u8], width: usize) -> u64
+        requires behind { Behind img.now self.old }
+        requires width_bound { (width ≤ 56) × (self.old.at * 8 + width ≤ length img.now * 8 + self.old.n) }
+        ensures { Read img.now self.old self.new (width ∷ []) (result ∷ []) }
+    {
+        let k = (width + 7 - self.n) / 8;
+        let m = self.n + k * 8 - width;
+        let acc = load(img, self.at, k, self.acc);
+        *self = Cursor {
+            acc: low(acc, m),
+            n: m,
+            at: self.at + k,
+        };
+        acc >> m
     }
-    c
-}
 
-// Reads each of xs in width bits.
-pub fn get_run(img: &[u8], r: Cursor, width: usize, xs: &mut [u32]) -> Cursor
-    requires behind { Behind img.now r }
-    requires width_bound { (width ≤ 32) × (r.at * 8 + length xs.old * width ≤ length img.now * 8 + r.n) }
-    ensures { Read img.now r result (replicate (length xs.old) width) xs.new }
-{
-    let mut c = r;
-    let mut i: usize = 0;
-    while i < xs.len() {
-        let g = get(img, c, width);
-        xs[i] = g.v as u32;
-        c = g.next;
-        i += 1;
+    // Writes each of xs in width bits.
+    pub fn put_run(&mut self, img: &mut [u8], width: usize, xs: &[u32])
+        requires held { Held self.old }
+        requires width_bound { (width ≤ 56) × Fit (replicate (length xs.now) width) xs.now
+            × (self.old.at * 8 + self.old.n + length xs.now * width ≤ length img.old * 8) }
+        ensures { Wrote img.old img.new self.old self.new (replicate (length xs.now) width) xs.now }
+    {
+        for x in xs {
+            self.put(img, width, u64::from(*x));
+        }
     }
-    c
-}
 
-// Writes whole bytes at a byte's start.
-pub fn put_bytes(img: &mut [u8], w: Cursor, xs: &[u8]) -> Cursor
-    requires { (w.n ≡ 0) × (w.acc ≡ 0) × (w.at + length xs.now ≤ length img.old) }
-    ensures { Wrote img.old img.new w result (eights (length xs.now)) xs.now }
-{
-    let at: usize = w.at;
-    copy_to(img, at, xs);
-    Cursor {
-        acc: 0,
-        n: 0,
-        at: at + xs.len(),
+    // Reads each of xs in width bits.
+    pub fn get_run(&mut self, img: &[u8], width: usize, xs: &mut [u32])
+        requires behind { Behind img.now self.old }
+        requires width_bound { (width ≤ 32) × (self.old.at * 8 + length xs.old * width ≤ length img.now * 8 + self.old.n) }
+        ensures { Read img.now self.old self.new (replicate (length xs.old) width) xs.new }
+    {
+        for x in xs.iter_mut() {
+            *x = self.get(img, width) as u32;
+        }
     }
-}
 
-// Reads whole bytes at a byte's start.
-pub fn get_bytes(img: &[u8], r: Cursor, xs: &mut [u8]) -> Cursor
-    requires { (r.n ≡ 0) × (r.acc ≡ 0) × (r.at + length xs.old ≤ length img.now) }
-    ensures { Read img.now r result (eights (length xs.old)) xs.new }
-{
-    let at: usize = r.at;
-    copy_from(img, at, xs);
-    Cursor {
-        acc: 0,
-        n: 0,
-        at: at + xs.len(),
+    // Writes whole bytes at a byte's start.
+    pub fn put_bytes(&mut self, img: &mut [u8], xs: &[u8])
+        requires { (self.old.n ≡ 0) × (self.old.acc ≡ 0) × (self.old.at + length xs.now ≤ length img.old) }
+        ensures { Wrote img.old img.new self.old self.new (eights (length xs.now)) xs.now }
+    {
+        copy_to(img, self.at, xs);
+        self.at += xs.len();
+    }
+
+    // Reads whole bytes at a byte's start.
+    pub fn get_bytes(&mut self, img: &[u8], xs: &mut [u8])
+        requires { (self.old.n ≡ 0) × (self.old.acc ≡ 0) × (self.old.at + length xs.old ≤ length img.now) }
+        ensures { Read img.now self.old self.new (eights (length xs.old)) xs.new }
+    {
+        copy_from(img, self.at, xs);
+        self.at += xs.len();
     }
 }

@@ -17,12 +17,10 @@ pub fn store(img: &mut [u8], at: usize, k: usize, x: u64)
     requires { (k ≤ 8) × (at + k ≤ length img.old) }
     ensures { img.new ≡ paste img.old at (bytes_of k x) k }
 {
-    let mut j: usize = 0;
-    while j < k {
-        let s: usize = (k - 1 - j) * 8;
-        let b: u64 = x >> s;
+    for j in 0..k {
+        let s = (k - 1 - j) * 8;
+        let b = x >> s;
         img[at + j] = (b % 256) as u8;
-        j += 1;
     }
 }
 
@@ -32,11 +30,9 @@ pub fn load(img: &[u8], at: usize, k: usize, acc: u64) -> u64
     ensures value { result ≡ acc * 2 ^ (k * 8) + word_of (take k (drop at img.now)) }
     ensures upper_bound { result < (acc + 1) * 2 ^ (k * 8) }
 {
-    let mut a: u64 = acc;
-    let mut j: usize = 0;
-    while j < k {
-        a = a * 256 + (img[at + j] as u64);
-        j += 1;
+    let mut a = acc;
+    for b in &img[at..at + k] {
+        a = a * 256 + u64::from(*b);
     }
     a
 }
@@ -46,11 +42,7 @@ pub fn copy_to(img: &mut [u8], at: usize, xs: &[u8])
     requires { at + length xs.now ≤ length img.old }
     ensures { img.new ≡ paste img.old at xs.now (length xs.now) }
 {
-    let mut j: usize = 0;
-    while j < xs.len() {
-        img[at + j] = xs[j];
-        j += 1;
-    }
+    img[at..at + xs.len()].copy_from_slice(xs);
 }
 
 // Copies bytes from a place.
@@ -58,9 +50,5 @@ pub fn copy_from(img: &[u8], at: usize, xs: &mut [u8])
     requires { at + length xs.old ≤ length img.now }
     ensures { xs.new ≡ take (length xs.old) (drop at img.now) }
 {
-    let mut j: usize = 0;
-    while j < xs.len() {
-        xs[j] = img[at + j];
-        j += 1;
-    }
+    xs.copy_from_slice(&img[at..at + xs.len()]);
 }

@@ -20,7 +20,7 @@ use Rattle.call_load.specs.Cartridge.{Loaded}
 use Rattle.call_load.specs.Cartridge.{fresh_state, load_answer}
 use Rattle.image_write.specs.Options.{image_at, option_set, room_for}
 use Rattle.image_write.specs.Writing.{room_check}
-use Rattle.image_read.specs.declared.reading.ReadImage.{ReadImage}
+use Rattle.image_read.specs.Reading.{ReadImage}
 use Rattle.image_read.specs.Reading.{read_checks, refused_read, read_image, state_in}
 use Rattle.image_read.proofs.RoundTrip.{accepted-in-range, in-range-accepted, read_known, roomy-in, written_read}
 use Rattle.image_read.proofs.Accepted.{accepted}

@@ -10,10 +10,10 @@ ghost use Rattle.directory_touched.specs.Touched.{shown_by};
 ghost use Rattle.call_blocks.specs.Blocks.{with_directory, cpu_write_drops};
 ghost use Rattle.host_blocks.specs.HostBlocks.{write_blocks_on, arena_byte, stored_drops};
 
-use call_blocks::check_directory;
 use call_blocks::writes::cpu_write_known;
 use call_refusals::known::KnownState;
 use directory::drop_touched;
+use directory::fitness::check_directory;
 use directory_touched::shown_mask;
 use host_state::changes_word;
 use image_write::writing::put_image;

@@ -27,7 +27,7 @@ use Rattle.image_write.specs.Options.{Room, short, long}
 use Rattle.image_write.proofs.Whole.{total-widths}
 use Rattle.image_write.proofs.writing.Laws.{room, short-room, long-room, room-none, length-image, image-short, image-long}
 use Rattle.image_write.proofs.writing.Laws.{byte-is}
-use Rattle.image_read.specs.declared.reading.ReadImage.{ReadImage}
+use Rattle.image_read.specs.Reading.{ReadImage}
 use Rattle.image_read.specs.Reading.{is_set, cut_into, state_from, state_of, fields_ok, fields_of, options_of, body_in, byte_in, state_in}
 use Rattle.image_read.specs.Reading.{image_ok, read_checks, refused_read, read_image, read_body}
 use Rattle.image_read.proofs.Accepted.{accepted, read_is, unused-is, protects-is}

@@ -11,7 +11,8 @@ use lib.Ieee.Bits.{of_bits-to_bits}
 use lib.ListN.{length, get_or, replicate, length-map}
 use Rattle.bits.specs.Fields.{Fit, bit, times, each}
 use Rattle.bits.proofs.Fields.{fit_length, fit-below, bit-lt}
-use Rattle.bits.proofs.Lists.{listed-is, get_d_map}
+use Rattle.bits.proofs.Lists.{listed-is}
+use Rattle.std.proofs.lemmas.List.{get_or-map}
 use Rattle.memory.specs.declared.page.Page.{Page}
 use Rattle.memory.specs.Layout.{arena_pages}
 use Rattle.memory.specs.Page.{writable_of}
@@ -69,7 +70,7 @@ module _ (s : State) (k : Known s) where
 fit-map : {A : Type 0} (f : A → ℕ) (d : A) (n w : ℕ) (xs : List A) → length xs ≡ n
     → ((i : ℕ) → i < n → f (get_or xs i d) < 2 ^ w) → Fit (replicate n w) (map f xs)
 fit-map f d n w xs e h =
-    fit-replicate n w (map f xs) (length-map xs f ∙ e) (λ i l. rw (get_d_map f xs i d 0 (omega (arith, e))) (h i l))
+    fit-replicate n w (map f xs) (length-map xs f ∙ e) (λ i l. rw (get_or-map f xs i d 0 (omega (arith, e))) (h i l))
 
 fit-pages : (n : ℕ) (xs : List Page) → length xs ≡ n → PagesFit n xs → Fit (times n page_widths) (each page_fields xs)
 unfolding times each
@@ -183,4 +184,4 @@ module _ (vs options : List ℕ) (f : Fit widths vs) (k : Known (state_of vs opt
       all ∙ joined-cut part_widths vs f
     where
       level-of : (p : List ℕ) → Levels (map whole p) → (i : ℕ) → i < 8 → i < length p → Level (whole (get_or p i 0))
-      level-of p o i h l = subst Level (get_d_map whole p i 0 nan l) (o i h)
+      level-of p o i h l = subst Level (get_or-map whole p i 0 nan l) (o i h)

@@ -1,5 +1,5 @@
 -- H1, N1, N2: image reading. The state that an image's fields make, and which images are accepted.
-use Rattle.std.specs.Prelude.{ℕ, zero, suc, ◌*◌, Bool, cond, not, ◌&&◌, List, [], ◌∷◌, map, eqb, leb, length, get_or, take, drop}
+use Rattle.std.specs.Prelude.{ℕ, zero, suc, ◌*◌, Bool, cond, not, ◌&&◌, List, [], ◌∷◌, map, eqb, leb, length, get_or, take, drop, Result}
 use Rattle.std.specs.Float.{binary32}
 use Rattle.std.specs.Float.Ieee.{of_bits}
 use Rattle.bits.specs.Fields.{unpack}
@@ -20,7 +20,8 @@ use Rattle.board_state.specs.declared.State.{State}
 use Rattle.board_state.specs.State.{in_range}
 use Rattle.call_refusals.specs.Refusals.{Check, unless_refused}
 use Rattle.board_state.specs.None.{no_state}
-use Rattle.image_read.specs.declared.reading.ReadImage.{ReadImage}
+use Rattle.refusals.specs.declared.Refusal.{Refusal}
+use Rattle.refusals.specs.Refusal.{answered}
 use Rattle.image_write.specs.Image.{image_bytes, part, part_widths, widths}
 use Rattle.image_write.specs.Options.{option_widths}
 use Rattle.image_write.specs.Writing.{image_check}
@@ -177,9 +178,18 @@ fields_check img = record { number = 2; holds = not (image_ok img) }
 abbrev pub read_checks : List ℕ → List Check
 read_checks img = image_check (length img) ∷ fields_check img ∷ []
 
+-- N0, N21: what a read answers
+pub record ReadImage : Type 0 where
+  pub refusal : ℕ
+  pub state : State
+
 -- N21: a refused read was given no state: it answers the one that a refused load answers
 abbrev pub refused_read : ℕ → ReadImage
 refused_read q = record { refusal = q; state = no_state }
+
+-- the answer as its number and its state
+abbrev pub read_answer : Result State Refusal → ReadImage
+read_answer = answered refused_read (λ s. record { refusal = 0; state = s })
 
 unfoldable pub read_image : List ℕ → ReadImage
 read_image img = unless_refused (read_checks img) refused_read (record { refusal = 0; state = state_in img })

@@ -1,17 +1,14 @@
 // The page tables of their bytes, eight entries at a time.
-ghost use Rattle.std.specs.Prelude.{◌≡◌, [], ◌∷◌, ◌+◌, ◌-◌, ◌*◌, ◌/◌, ◌%◌, ◌^◌, ◌<◌, ◌≤◌, length};
+ghost use Rattle.std.specs.Prelude.{◌≡◌, [], ◌∷◌, ◌+◌, ◌*◌, ◌/◌, ◌%◌, ◌^◌, ◌<◌, ◌≤◌, length};
 ghost use Rattle.bits.specs.Fields.{times};
-ghost use Rattle.limits.specs.Limits.{prg_entries, chr_entries};
 ghost use Rattle.memory.specs.Page.{page_of};
 ghost use Rattle.bits.specs.Cursor.{Read};
-ghost use Rattle.image_write.specs.Image.{image_bytes, page_widths, byte_at};
-ghost use Rattle.image_write.specs.Sections.{prg_pages_at, chr_pages_at, layout_at};
+ghost use Rattle.image_write.specs.Image.{page_widths, byte_at};
 ghost use Rattle.image_read.specs.Reading.{is_set, pages_of};
 ghost use Rattle.image_read.specs.Sections.{fields_at};
 ghost use Rattle.image_read.specs.Pages.{eight_fields};
 
 use bits::words::load;
-use image_write::sections::{CHR_PAGES_AT, PRG_PAGES_AT};
 use memory::page::Page;
 
 // The words of eight entries: four in 44 bits, then four in 44 bits.
@@ -43,6 +40,7 @@ fn eight_words(img: &[u8], at: usize) -> Eight
     }
 }
 
+// Each entry is cut out by its own constant, with no loop and no cursor.
 fn eight_of(w: Eight) -> [Page; 8]
     requires { (w.first < 2 ^ 44) × (w.last < 2 ^ 44) }
     ensures { (result ≡ pages_of (eight_fields w)) × (length result ≡ 8) }
@@ -60,64 +58,13 @@ fn eight_of(w: Eight) -> [Page; 8]
     [p, q, r, s, t, u, v, x]
 }
 
-pub fn get_prg_pages(img: &[u8]) -> [Page; 64]
-    requires { length img.now ≡ image_bytes }
-    ensures { result ≡ pages_of (fields_at (times prg_entries page_widths) img.now prg_pages_at (chr_pages_at - prg_pages_at)) }
+// A table of whole eights from a place on.
+pub fn get_pages(img: &[u8], at: usize, pages: &mut [Page])
+    requires { (length pages.old % 8 ≡ 0) × (at + length pages.old / 8 * 11 ≤ length img.now) }
+    ensures { pages.new ≡ pages_of (fields_at (times (length pages.old) page_widths) img.now at (length pages.old / 8 * 11)) }
 {
-    let page = Page::UNMAPPED;
-    let mut pages = [page; 64];
-    let mut k: usize = 0;
-    while k < 8 {
-        let g = eight_of(eight_words(img, PRG_PAGES_AT + k * 11));
-        let i = k * 8;
-        let p = g[0];
-        let q = g[1];
-        let r = g[2];
-        let s = g[3];
-        let t = g[4];
-        let u = g[5];
-        let v = g[6];
-        let x = g[7];
-        pages[i] = p;
-        pages[i + 1] = q;
-        pages[i + 2] = r;
-        pages[i + 3] = s;
-        pages[i + 4] = t;
-        pages[i + 5] = u;
-        pages[i + 6] = v;
-        pages[i + 7] = x;
-        k += 1;
+    for k in 0..pages.len() / 8 {
+        let g = eight_of(eight_words(img, at + k * 11));
+        pages[k * 8..k * 8 + 8].copy_from_slice(&g);
     }
-    pages
-}
-
-pub fn get_chr_pages(img: &[u8]) -> [Page; 16]
-    requires { length img.now ≡ image_bytes }
-    ensures { result ≡ pages_of (fields_at (times chr_entries page_widths) img.now chr_pages_at (layout_at - chr_pages_at)) }
-{
-    let page = Page::UNMAPPED;
-    let mut pages = [page; 16];
-    let mut k: usize = 0;
-    while k < 2 {
-        let g = eight_of(eight_words(img, CHR_PAGES_AT + k * 11));
-        let i = k * 8;
-        let p = g[0];
-        let q = g[1];
-        let r = g[2];
-        let s = g[3];
-        let t = g[4];
-        let u = g[5];
-        let v = g[6];
-        let x = g[7];
-        pages[i] = p;
-        pages[i + 1] = q;
-        pages[i + 2] = r;
-        pages[i + 3] = s;
-        pages[i + 4] = t;
-        pages[i + 5] = u;
-        pages[i + 6] = v;
-        pages[i + 7] = x;
-        k += 1;
-    }
-    pages
 }

@@ -4,33 +4,27 @@ ghost use Rattle.limits.specs.Limits.{out_most};
 ghost use Rattle.sound.specs.Levels.{whole};
 ghost use Rattle.image_write.specs.Image.{image_bytes, chip_widths, joined};
 ghost use Rattle.image_write.specs.Sections.{chip_at, ram_at, port_at, levels_at, out_at, phases_at, prg_pages_at};
-ghost use Rattle.image_read.specs.Reading.{refused_read, read_image, read_body};
+ghost use Rattle.image_read.specs.Reading.{read_answer, read_image, read_body};
 ghost use Rattle.image_read.specs.Sections.{fields_at, head_parts, HeadFits, chip_of, sound_at, memory_at, state_at};
 
-use crate::pages::{get_chr_pages, get_prg_pages};
+use crate::pages::get_pages;
 use crate::words::{
     board_numbered, chr_banks_of, flags_of, mirroring_numbered, prg_banks_of, regs_of,
 };
-use bits::cursor::{Cursor, get, get_bytes, get_run};
+use bits::cursor::Cursor;
 use bits::words::load;
 use board_chip::namco163::Namco163;
-use board_state::none::no_state;
 use board_state::{State, in_range};
 use image_write::sections::{
-    CHIP_AT, IMAGE_BYTES, LAYOUT_AT, LEVELS_AT, OPTIONS_IMAGE_BYTES, OUT_AT, PHASES_AT, PORT_AT,
-    RAM_AT,
+    CHIP_AT, CHR_PAGES_AT, IMAGE_BYTES, LAYOUT_AT, LEVELS_AT, OUT_AT, PHASES_AT, PORT_AT,
+    PRG_PAGES_AT, RAM_AT,
 };
 use limits::{OUT_MOST, USED_MOST};
 use memory::Memory;
 use memory::layout::Layout;
+use memory::page::Page;
+use refusals::Refusal;
 use sound::audio::Audio;
-
-// What a read answers. Where it is refused, the state is one that no call accepts.
-#[derive(Clone, Copy)]
-pub struct ReadImage {
-    pub refusal: u8,
-    pub state: State,
-}
 
 // The board's fields as the words that hold them.
 #[derive(Clone, Copy)]
@@ -44,28 +38,23 @@ pub struct Head {
 }
 
 // The board's words, one behind the other.
-fn read_head(img: &[u8]) -> Head
-    requires { length img.now ≡ image_bytes }
+fn read_head(img: &[u8; IMAGE_BYTES]) -> Head
     ensures { (fields_at (joined chip_widths) img.now chip_at (ram_at - chip_at) ≡ joined (head_parts result)) × HeadFits result }
 {
-    let start = Cursor {
-        acc: 0,
-        n: 0,
-        at: CHIP_AT,
-    };
-    let regs = get(img, start, 53);
-    let detection = get(img, regs.next, 5);
-    let flags = get(img, detection.next, 12);
-    let first = get(img, flags.next, 48);
-    let last = get(img, first.next, 48);
-    let prg = get(img, last.next, 18);
+    let mut c = Cursor::at_byte(CHIP_AT);
+    let regs = c.get(img, 53);
+    let detection = c.get(img, 5);
+    let flags = c.get(img, 12);
+    let chr_first = c.get(img, 48);
+    let chr_last = c.get(img, 48);
+    let prg = c.get(img, 18);
     Head {
-        regs: regs.v,
-        detection: detection.v,
-        flags: flags.v,
-        chr_first: first.v,
-        chr_last: last.v,
-        prg: prg.v,
+        regs,
+        detection,
+        flags,
+        chr_first,
+        chr_last,
+        prg,
     }
 }
 
@@ -73,38 +62,26 @@ fn chip_of(h: Head, audio: Audio) -> Namco163
     requires { HeadFits h }
     ensures { result ≡ chip_of h audio }
 {
-    let regs = regs_of(h.regs);
-    let board = board_numbered(h.regs / 0x0100_0000 % 4);
-    let mirroring = mirroring_numbered(h.detection / 2 % 8);
-    let nt_bank_enable = flags_of(h.flags);
-    let chr_banks = chr_banks_of(h.chr_first, h.chr_last);
-    let prg_banks = prg_banks_of(h.prg);
     Namco163 {
-        regs: regs,
-        board: board,
+        regs: regs_of(h.regs),
+        board: board_numbered(h.regs / 0x0100_0000 % 4),
         mapper_num: (h.regs / 256 % 65536) as u16,
         submapper_num: (h.regs % 256) as u8,
-        audio: audio,
+        audio,
         auto_detect_board: h.detection / 16 % 2 == 1,
-        mirroring: mirroring,
+        mirroring: mirroring_numbered(h.detection / 2 % 8),
         prg_ram_written_to: h.detection % 2 == 1,
-        nt_bank_enable: nt_bank_enable,
-        chr_banks: chr_banks,
-        prg_banks: prg_banks,
+        nt_bank_enable: flags_of(h.flags),
+        chr_banks: chr_banks_of(h.chr_first, h.chr_last),
+        prg_banks: prg_banks_of(h.prg),
     }
 }
 
-fn get_ram(img: &[u8]) -> [u8; 128]
-    requires { length img.now ≡ image_bytes }
+fn get_ram(img: &[u8; IMAGE_BYTES]) -> [u8; 128]
     ensures { result ≡ fields_at (replicate 128 8) img.now ram_at (port_at - ram_at) }
 {
-    let mut ram = [0u8; 128];
-    let c = Cursor {
-        acc: 0,
-        n: 0,
-        at: RAM_AT,
-    };
-    get_bytes(img, c, &mut ram);
+    let mut ram = [0; 128];
+    Cursor::at_byte(RAM_AT).get_bytes(img, &mut ram);
     ram
 }
 
@@ -113,75 +90,55 @@ fn levels_of(ns: [u32; 8]) -> [f32; 8]
     requires { (i : ℕ) → get_or ns i 0 < 4096 }
     ensures { result ≡ map whole ns }
 {
-    [
-        ns[0] as f32,
-        ns[1] as f32,
-        ns[2] as f32,
-        ns[3] as f32,
-        ns[4] as f32,
-        ns[5] as f32,
-        ns[6] as f32,
-        ns[7] as f32,
-    ]
+    let mut outs = [0.0f32; 8];
+    for i in 0..8 {
+        outs[i] = ns[i] as f32;
+    }
+    outs
 }
 
-fn get_levels(img: &[u8]) -> [f32; 8]
-    requires { length img.now ≡ image_bytes }
+fn get_levels(img: &[u8; IMAGE_BYTES]) -> [f32; 8]
     ensures { result ≡ map whole (fields_at (replicate 8 12) img.now levels_at (out_at - levels_at)) }
 {
-    let mut ns = [0u32; 8];
-    let c = Cursor {
-        acc: 0,
-        n: 0,
-        at: LEVELS_AT,
-    };
-    get_run(img, c, 12, &mut ns);
+    let mut ns = [0; 8];
+    Cursor::at_byte(LEVELS_AT).get_run(img, 12, &mut ns);
     levels_of(ns)
 }
 
-fn get_phases(img: &[u8]) -> [u32; 8]
-    requires { length img.now ≡ image_bytes }
+fn get_phases(img: &[u8; IMAGE_BYTES]) -> [u32; 8]
     ensures { result ≡ fields_at (replicate 8 24) img.now phases_at (prg_pages_at - phases_at) }
 {
-    let mut phases = [0u32; 8];
-    let c = Cursor {
-        acc: 0,
-        n: 0,
-        at: PHASES_AT,
-    };
-    get_run(img, c, 24, &mut phases);
+    let mut phases = [0; 8];
+    Cursor::at_byte(PHASES_AT).get_run(img, 24, &mut phases);
     phases
 }
 
 // The sound, given the bits of `out`, which are a number's.
-fn read_sound(img: &[u8], bits: u32) -> Audio
-    requires { (length img.now ≡ image_bytes) × (bits ≤ out_most) }
+fn read_sound(img: &[u8; IMAGE_BYTES], bits: u32) -> Audio
+    requires { bits ≤ out_most }
     ensures { result ≡ sound_at img.now bits }
 {
-    let ram = get_ram(img);
     let port = load(img, PORT_AT, 2, 0);
-    let outs = get_levels(img);
-    let phases = get_phases(img);
-    let out = f32::from_bits(bits);
     Audio {
-        ram: ram,
+        ram: get_ram(img),
         addr: (port / 512 % 128) as usize,
         auto_increment: port / 256 % 2 == 1,
         disabled: port / 128 % 2 == 1,
         update_counter: (port / 8 % 16) as u8,
         current_channel: (port % 8) as u8,
-        channel_out: outs,
-        out: out,
-        phase_ext: phases,
+        channel_out: get_levels(img),
+        out: f32::from_bits(bits),
+        phase_ext: get_phases(img),
     }
 }
 
-fn read_memory(img: &[u8]) -> Memory
-    requires { length img.now ≡ image_bytes }
+fn read_memory(img: &[u8; IMAGE_BYTES]) -> Memory
     ensures { result ≡ memory_at img.now }
 {
-    let prg = get_prg_pages(img);
-    let chr = get_chr_pages(img);
+    let mut prg_pages = [Page::UNMAPPED; 64];
+    get_pages(img, PRG_PAGES_AT, &mut prg_pages);
+    let mut chr_pages = [Page::UNMAPPED; 16];
+    get_pages(img, CHR_PAGES_AT, &mut chr_pages);
     let w = load(img, LAYOUT_AT, 4, 0);
     let layout = Layout {
         prg_rom: (w / 0x0040_0000 % 1024) as usize,
@@ -192,75 +149,57 @@ fn read_memory(img: &[u8]) -> Memory
         ciram: (w / 2 % 8) as usize,
     };
     Memory {
-        layout: layout,
+        layout,
         battery_ext_len: (w % 2) as usize * USED_MOST,
-        prg_pages: prg,
-        chr_pages: chr,
-    }
-}
-
-// A refused read.
-fn refused(number: u8) -> ReadImage
-    ensures { result ≡ refused_read number }
-{
-    let none = no_state();
-    ReadImage {
-        refusal: number,
-        state: none,
+        prg_pages,
+        chr_pages,
     }
 }
 
 // The state of IMAGE_BYTES bytes, given the board's words, the bits of `out` and the option.
-fn read_fields(img: &[u8], h: Head, bits: u32, protects: bool) -> State
-    requires { (length img.now ≡ image_bytes) × HeadFits h × (bits ≤ out_most) }
-    ensures { result ≡ state_at img.now h bits protects }
+fn read_fields(img: &[u8; IMAGE_BYTES], h: Head, bits: u32, f800_protects: bool) -> State
+    requires { HeadFits h × (bits ≤ out_most) }
+    ensures { result ≡ state_at img.now h bits f800_protects }
 {
-    let m = read_memory(img);
-    let audio = read_sound(img, bits);
-    let chip = chip_of(h, audio);
     State {
-        chip: chip,
-        memory: m,
-        f800_protects: protects,
+        chip: chip_of(h, read_sound(img, bits)),
+        memory: read_memory(img),
+        f800_protects,
     }
 }
 
 // Reads the IMAGE_BYTES bytes before the options, given the byte of options.
-fn read_body(img: &[u8], options: u8) -> ReadImage
-    requires { length img.now ≡ image_bytes }
-    ensures { result ≡ read_body img.now options }
+fn read_body(img: &[u8; IMAGE_BYTES], options: u8) -> Result<State, Refusal>
+    ensures { read_answer result ≡ read_body img.now options }
 {
     if options % 128 != 0 {
-        return refused(2);
+        return Err(Refusal::State);
     }
     let bits = load(img, OUT_AT, 4, 0);
     let h = read_head(img);
     if (OUT_MOST as u64) < bits {
-        return refused(2);
+        return Err(Refusal::State);
     }
     if 4 < h.detection / 2 % 8 {
-        return refused(2);
+        return Err(Refusal::State);
     }
     let s = read_fields(img, h, bits as u32, options / 128 == 1);
-    if in_range(s) {
-        return ReadImage {
-            refusal: 0,
-            state: s,
-        };
+    if !in_range(s) {
+        return Err(Refusal::State);
     }
-    refused(2)
+    Ok(s)
 }
 
-// Reads an image of either length. It answers the refusal number, and the state where it is accepted.
-pub fn read_image(img: &[u8]) -> ReadImage
-    ensures { result ≡ read_image img.now }
+// Reads an image of either length.
+pub fn read_image(img: &[u8]) -> Result<State, Refusal>
+    ensures { read_answer result ≡ read_image img.now }
 {
-    if img.len() == IMAGE_BYTES {
-        return read_body(img, 0);
+    let Some((body, options)) = img.split_first_chunk::<IMAGE_BYTES>() else {
+        return Err(Refusal::Image);
+    };
+    match options {
+        [] => read_body(body, 0),
+        [options] => read_body(body, *options),
+        _ => Err(Refusal::Image),
     }
-    if img.len() != OPTIONS_IMAGE_BYTES {
-        return refused(1);
-    }
-    let options = img[IMAGE_BYTES];
-    read_body(&img[..IMAGE_BYTES], options)
 }

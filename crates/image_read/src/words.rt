@@ -4,6 +4,7 @@ ghost use Rattle.bits.specs.Fields.{unpack};
 ghost use Rattle.image_write.specs.Image.{part, chip_widths};
 ghost use Rattle.image_read.specs.Reading.{is_set, regs_from, board_numbered, mirroring_numbered};
 
+use bits::words::store;
 use board_chip::namco163::{Board, Regs};
 use memory::mirroring::Mirroring;
 
@@ -22,74 +23,40 @@ pub fn regs_of(w: u64) -> Regs
 pub fn board_numbered(n: u64) -> Board
     ensures { result ≡ board_numbered n }
 {
-    if n == 0 {
-        return Board::Unknown;
+    match n {
+        0 => Board::Unknown,
+        1 => Board::Namco163,
+        2 => Board::Namco175,
+        _ => Board::Namco340,
     }
-    if n == 1 {
-        return Board::Namco163;
-    }
-    if n == 2 {
-        return Board::Namco175;
-    }
-    Board::Namco340
 }
 
 pub fn mirroring_numbered(n: u64) -> Mirroring
     ensures { result ≡ mirroring_numbered n }
 {
-    if n == 0 {
-        return Mirroring::Vertical;
-    }
-    if n == 1 {
-        return Mirroring::Horizontal;
-    }
-    if n == 2 {
-        return Mirroring::SingleScreenA;
-    }
-    if n == 3 {
-        return Mirroring::SingleScreenB;
-    }
-    Mirroring::FourScreen
+    Mirroring::try_from(n.min(4) as u8).unwrap_or(Mirroring::FourScreen)
 }
 
 // The twelve CIRAM flags of their word.
 pub fn flags_of(w: u64) -> [bool; 12]
     ensures { result ≡ map is_set (unpack (replicate 12 1) w) }
 {
-    [
-        w / 2048 % 2 == 1,
-        w / 1024 % 2 == 1,
-        w / 512 % 2 == 1,
-        w / 256 % 2 == 1,
-        w / 128 % 2 == 1,
-        w / 64 % 2 == 1,
-        w / 32 % 2 == 1,
-        w / 16 % 2 == 1,
-        w / 8 % 2 == 1,
-        w / 4 % 2 == 1,
-        w / 2 % 2 == 1,
-        w % 2 == 1,
-    ]
+    let mut flags = [false; 12];
+    for i in 0..12 {
+        let word = w >> (11 - i);
+        flags[i] = word % 2 == 1;
+    }
+    flags
 }
 
 // The twelve CHR banks of two words, six in each.
 pub fn chr_banks_of(a: u64, b: u64) -> [u8; 12]
     ensures { result ≡ unpack (replicate 6 8) a ++ unpack (replicate 6 8) b }
 {
-    [
-        (a / 0x0100_0000_0000 % 256) as u8,
-        (a / 0x0001_0000_0000 % 256) as u8,
-        (a / 0x0100_0000 % 256) as u8,
-        (a / 0x0001_0000 % 256) as u8,
-        (a / 0x0100 % 256) as u8,
-        (a % 256) as u8,
-        (b / 0x0100_0000_0000 % 256) as u8,
-        (b / 0x0001_0000_0000 % 256) as u8,
-        (b / 0x0100_0000 % 256) as u8,
-        (b / 0x0001_0000 % 256) as u8,
-        (b / 0x0100 % 256) as u8,
-        (b % 256) as u8,
-    ]
+    let mut banks = [0; 12];
+    store(&mut banks, 0, 6, a);
+    store(&mut banks, 6, 6, b);
+    banks
 }
 
 pub fn prg_banks_of(w: u64) -> [u8; 3]

@@ -1,20 +1,44 @@
 -- Laws of parts: words of several fields, and parts one behind the other.
 use mathlib.Core.Path.{◌≡◌, refl, sym, ap, ◌∙◌}
-use mathlib.Core.Bool.{Bool, false}
+use mathlib.Core.Bool.{Bool, true, false}
+use Rattle.std.specs.Int.{from_bool}
 use mathlib.Core.List.{List, [], ◌∷◌, ◌++◌, map, append_assoc, map-append}
 use Prim.Native.Nat.{ℕ, zero, suc, ◌+◌, ◌*◌, ◌^◌, ◌≤◌, ◌<◌}
 use native.Mathlib.Numerals.{add-one}
 use native.Mathlib.Omega.{arith}
 use lib.Pow.{pow-add, pow_mono}
-use lib.ListN.{length, take, get_or, replicate, length-append, length-replicate, length-map}
+use lib.ListN.{length, take, drop, get_or, replicate, length-append, length-replicate, length-map, length-drop}
+use Rattle.std.proofs.lemmas.List.{take-append-drop}
 use lib.Arith.{lt-one}
-use lib.Seq.{take-suc, length-take-le}
+use lib.Seq.{take-suc, take_all, length-take-le}
 use Rattle.bits.specs.Fields.{total, pack, Fit, bit}
+use Rattle.bits.specs.Words.{word_of, eights}
 use Rattle.bits.specs.Cursor.{Held, Wrote}
 use Rattle.bits.specs.declared.cursor.Cursor.{Cursor}
 use Rattle.bits.proofs.Fields.{pack-append, replicate-snoc}
 use Rattle.bits.proofs.cursor.Laws.{wrote-append, wrote_none, wrote-word}
+use Rattle.memory.specs.declared.mirroring.Mirroring.{Mirroring}
+use Rattle.memory.specs.declared.mirroring.Mirroring.TheVariants.{Vertical, Horizontal, SingleScreenA, SingleScreenB, FourScreen}
+use Rattle.memory.specs.Mirroring.{mirroring_num}
 use Rattle.image_write.specs.Image.{joined, byte_at}
+
+-- ---- words of several fields
+
+-- a yes/no as a number is its bit
+pub bit-is : (b : Bool) → from_bool b ≡ bit b
+bit-is true = refl
+bit-is false = refl
+
+pub bit-small : (b : Bool) → from_bool b < 2
+bit-small true = omega arith
+bit-small false = omega arith
+
+pub mirroring-small : (m : Mirroring) → mirroring_num m < 5
+mirroring-small Vertical = omega arith
+mirroring-small Horizontal = omega arith
+mirroring-small SingleScreenA = omega arith
+mirroring-small SingleScreenB = omega arith
+mirroring-small FourScreen = omega arith
 
 -- ---- words of fields of one width
 
@@ -60,6 +84,27 @@ wrote-to a b j k w ws vs e p = rw (← at_byte w k p.held (omega (arith, p.pos))
 pub wrote-fields : {a b : List ℕ} {u v : Cursor} (ws vs : List ℕ) {x : ℕ} → x ≡ pack ws vs → Wrote a b u v (total ws ∷ []) (x ∷ [])
     → Wrote a b u v ws vs
 wrote-fields {a} {b} {u} {v} ws vs e p = wrote-word a b u v ws vs (rw e at p)
+
+-- ---- twelve bytes in two words of six
+
+six : (xs : List ℕ) (k m : ℕ) → length (take 6 (drop k xs)) ≡ 6 → m ≡ 0 * 2 ^ 48 + word_of (take 6 (drop k xs))
+    → m ≡ pack (replicate 6 8) (take 6 (drop k xs))
+six xs k m l e =
+    let f : m ≡ word_of (take 6 (drop k xs)) = omega arith in
+    f ∙ ap (λ (n : ℕ). pack (eights n) (take 6 (drop k xs))) l
+
+pub wrote-twelve : (a b c : List ℕ) (u v w : Cursor) (xs : List ℕ) (m n : ℕ) → length xs ≡ 12
+    → m ≡ 0 * 2 ^ 48 + word_of (take 6 (drop 0 xs)) → n ≡ 0 * 2 ^ 48 + word_of (take 6 (drop 6 xs))
+    → Wrote a b u v (48 ∷ []) (m ∷ []) → Wrote b c v w (48 ∷ []) (n ∷ []) → Wrote a c u w (replicate 12 8) xs
+unfolding total
+wrote-twelve a b c u v w xs m n l d e p q =
+    let l0 : length (take 6 (drop 0 xs)) ≡ 6 = length-take-le 6 (drop 0 xs) (omega arith) in
+    let l6 : length (take 6 (drop 6 xs)) ≡ 6 = length-take-le 6 (drop 6 xs) (rw length-drop (omega arith)) in
+    let t : take 6 (drop 6 xs) ≡ drop 6 xs = take_all 6 (drop 6 xs) (rw length-drop (omega arith)) in
+    let whole : take 6 (drop 0 xs) ++ take 6 (drop 6 xs) ≡ xs = rw t (take-append-drop 6 xs) in
+    rw whole at (wrote-append a b c u v w (replicate 6 8) (take 6 (drop 0 xs)) (replicate 6 8) (take 6 (drop 6 xs)) (sym l0)
+    (wrote-fields (replicate 6 8) (take 6 (drop 0 xs)) (six xs 0 m l0 d) p)
+    (wrote-fields (replicate 6 8) (take 6 (drop 6 xs)) (six xs 6 n l6 e) q))
 
 -- ---- values that fit
 

@@ -1,8 +1,5 @@
 // The calls' names, and the words that each has.
-use check::same;
-use replay_text::out::put_all;
-
-#[derive(Clone, Copy)]
+#[derive(Clone, Copy, Debug, PartialEq, Eq)]
 pub enum Name {
     Load,
     Read,
@@ -24,132 +21,76 @@ pub enum Name {
     Register,
     Lookup,
     Directory,
-    Unknown,
 }
 
-// The calls on single bytes.
-fn byte_name(word: &[u8]) -> Name {
-    if same(word, b"read") {
-        return Name::Read;
-    }
-    if same(word, b"peek") {
-        return Name::Peek;
-    }
-    if same(word, b"write") {
-        return Name::Write;
-    }
-    if same(word, b"preview") {
-        return Name::Preview;
-    }
-    if same(word, b"chr-read") {
-        return Name::ChrRead;
-    }
-    if same(word, b"chr-write") {
-        return Name::ChrWrite;
-    }
-    if same(word, b"region-peek") {
-        return Name::RegionPeek;
-    }
-    if same(word, b"region-write") {
-        return Name::RegionWrite;
-    }
-    Name::Unknown
+pub fn name_of(word: &[u8]) -> Option<Name> {
+    let name = match word {
+        b"load" => Name::Load,
+        b"read" => Name::Read,
+        b"peek" => Name::Peek,
+        b"write" => Name::Write,
+        b"preview" => Name::Preview,
+        b"chr-read" => Name::ChrRead,
+        b"chr-write" => Name::ChrWrite,
+        b"fill" => Name::Fill,
+        b"region-peek" => Name::RegionPeek,
+        b"region-write" => Name::RegionWrite,
+        b"sram" => Name::Sram,
+        b"run" => Name::Run,
+        b"reset" => Name::Reset,
+        b"sync-battery" => Name::SyncBattery,
+        b"restore-battery" => Name::RestoreBattery,
+        b"image" => Name::Image,
+        b"arena" => Name::Arena,
+        b"register" => Name::Register,
+        b"lookup" => Name::Lookup,
+        b"directory" => Name::Directory,
+        _ => return None,
+    };
+    Some(name)
 }
 
-// The calls on the whole cartridge, and on the battery.
-fn cartridge_name(word: &[u8]) -> Name {
-    if same(word, b"load") {
-        return Name::Load;
+impl Name {
+    // What a line with this name has to be.
+    pub fn usage(self) -> &'static str {
+        match self {
+            Name::Load => {
+                "load and ten numbers, the second and third up to $FF, or eleven with OPTIONS of $80 or 0"
+            }
+            Name::Read => "read ADDR, up to $FFFF",
+            Name::Peek => "peek ADDR, up to $FFFF",
+            Name::Write => "write ADDR VAL, up to $FFFF and $FF",
+            Name::Preview => "preview ADDR VAL, up to $FFFF and $FF",
+            Name::ChrRead => "chr-read ADDR, up to $FFFF",
+            Name::ChrWrite => "chr-write ADDR VAL, up to $FFFF and $FF",
+            Name::Fill => "fill REGION HEX, two digits a byte",
+            Name::RegionPeek => "region-peek REGION OFFSET",
+            Name::RegionWrite => "region-write REGION OFFSET VAL, VAL up to $FF",
+            Name::Sram => "sram alone",
+            Name::Run => "run CLOCKS ROOM, ROOM up to 8192",
+            Name::Reset => "reset soft or reset hard",
+            Name::SyncBattery => "sync-battery alone",
+            Name::RestoreBattery => "restore-battery alone",
+            Name::Image => "image alone, or image LENGTH, up to 1024",
+            Name::Arena => "arena alone",
+            Name::Register => "register ADDR LENGTH NUMBER, up to $FFFF and $FFFFFFFF",
+            Name::Lookup => "lookup ADDR, up to $FFFF",
+            Name::Directory => "directory alone",
+        }
     }
-    if same(word, b"reset") {
-        return Name::Reset;
-    }
-    if same(word, b"sync-battery") {
-        return Name::SyncBattery;
-    }
-    if same(word, b"restore-battery") {
-        return Name::RestoreBattery;
-    }
-    if same(word, b"sram") {
-        return Name::Sram;
-    }
-    if same(word, b"image") {
-        return Name::Image;
-    }
-    if same(word, b"arena") {
-        return Name::Arena;
-    }
-    Name::Unknown
-}
 
-// The calls on the directory of translated blocks.
-fn block_name(word: &[u8]) -> Name {
-    if same(word, b"register") {
-        return Name::Register;
-    }
-    if same(word, b"lookup") {
-        return Name::Lookup;
-    }
-    if same(word, b"directory") {
-        return Name::Directory;
-    }
-    Name::Unknown
-}
-
-// The calls that are not on single bytes.
-fn other_name(word: &[u8]) -> Name {
-    let n = cartridge_name(word);
-    match n {
-        Name::Unknown => block_name(word),
-        _ => n,
-    }
-}
-
-pub fn name_of(word: &[u8]) -> Name {
-    if same(word, b"run") {
-        return Name::Run;
-    }
-    if same(word, b"fill") {
-        return Name::Fill;
-    }
-    let n = byte_name(word);
-    match n {
-        Name::Unknown => other_name(word),
-        _ => n,
-    }
-}
-
-// What a line with this name has to be.
-pub fn put_usage(out: &mut [u8], at: usize, n: Name) -> usize {
-    match n {
-        Name::Load => put_all(
-            out,
-            at,
-            b"load and ten numbers, the second and third up to $FF, or eleven with OPTIONS of $80 or 0",
-        ),
-        Name::Read => put_all(out, at, b"read ADDR, up to $FFFF"),
-        Name::Peek => put_all(out, at, b"peek ADDR, up to $FFFF"),
-        Name::Write => put_all(out, at, b"write ADDR VAL, up to $FFFF and $FF"),
-        Name::Preview => put_all(out, at, b"preview ADDR VAL, up to $FFFF and $FF"),
-        Name::ChrRead => put_all(out, at, b"chr-read ADDR, up to $FFFF"),
-        Name::ChrWrite => put_all(out, at, b"chr-write ADDR VAL, up to $FFFF and $FF"),
-        Name::Fill => put_all(out, at, b"fill REGION HEX, two digits a byte"),
-        Name::RegionPeek => put_all(out, at, b"region-peek REGION OFFSET"),
-        Name::RegionWrite => put_all(out, at, b"region-write REGION OFFSET VAL, VAL up to $FF"),
-        Name::Sram => put_all(out, at, b"sram alone"),
-        Name::Run => put_all(out, at, b"run CLOCKS ROOM, ROOM up to 8192"),
-        Name::Reset => put_all(out, at, b"reset soft or reset hard"),
-        Name::SyncBattery => put_all(out, at, b"sync-battery alone"),
-        Name::RestoreBattery => put_all(out, at, b"restore-battery alone"),
-        Name::Image => put_all(out, at, b"image alone, or image LENGTH, up to 1024"),
-        Name::Arena => put_all(out, at, b"arena alone"),
-        Name::Register => put_all(
-            out,
-            at,
-            b"register ADDR LENGTH NUMBER, up to $FFFF and $FFFFFFFF",
-        ),
-        Name::Lookup => put_all(out, at, b"lookup ADDR, up to $FFFF"),
-        Name::Directory => put_all(out, at, b"directory alone"),
-        Name::Unknown => put_all(out, at, b"one of the calls' names"),
+    // Whether so many words may stand behind the name.
+    pub fn takes(self, words: usize) -> bool {
+        match self {
+            Name::Load => words == 10 || words == 11,
+            Name::Read | Name::Peek | Name::ChrRead | Name::Reset | Name::Lookup => words == 1,
+            Name::Write | Name::Preview | Name::ChrWrite | Name::RegionPeek | Name::Run => words
+                == 2,
+            Name::RegionWrite | Name::Register => words == 3,
+            Name::Fill => words == 1 || words == 2,
+            Name::Image => words <= 1,
+            Name::Sram | Name::SyncBattery | Name::RestoreBattery | Name::Arena | Name::Directory =>
+                words == 0,
+        }
     }
 }

@@ -1,299 +1,168 @@
-// Each call on the cartridge, and its answer.
-use crate::player::{Player, within};
+// Each call on the cartridge and its directory, and its answer.
+use crate::player::Player;
+use board_chip::reset::ResetKind;
 use board_state::{Options, State};
-use call_answers::{Altered, Peeked};
 use call_blocks::writes as blocks;
 use call_cpu::calls as board;
-use call_load::Loaded;
-use call_preview::Previewed;
-use call_run::run::Ran;
 use image_write::sections::IMAGE_BYTES;
 use image_write::writing::write_image;
 use memory::layout::{Layout, MemoryLayout, Src};
+use refusals::Refusal;
 use replay_answers::answers;
-use replay_calls::call::{Call, Cartridge, IMAGE_ROOM};
+use replay_calls::call::{Cartridge, IMAGE_ROOM, SAMPLES_ROOM};
 
 // The length of the arena that a load is lent: none for a layout over a limit.
 fn arena_len(sizes: MemoryLayout) -> usize {
     if sizes.within_limits() {
-        let layout = Layout::new(sizes);
-        return layout.arena_len();
-    }
-    0
-}
-
-// A refused load leaves the old cartridge, whose bytes lie in the same array.
-pub fn load(
-    mut p: Player,
-    directory: &mut [u64],
-    arena: &mut [u8],
-    out: &mut [u8],
-    cartridge: Cartridge,
-) -> Player {
-    let sizes = cartridge.sizes;
-    let n = within(arena_len(sizes), arena);
-    let options = Options {
-        f800_protects: cartridge.f800_protects,
-    };
-    let r: Loaded = call_blocks::calls::load(
-        directory,
-        &mut arena[..n],
-        cartridge.mapper,
-        cartridge.submapper,
-        cartridge.flags,
-        cartridge.known,
-        sizes,
-        options,
-    );
-    let at = p.out_len;
-    p.out_len = answers::ok(out, at, r.refusal);
-    if r.refusal != 0 {
-        return p;
-    }
-    let fresh = r.state;
-    p.state = fresh;
-    p.loaded = true;
-    p.arena_len = n;
-    p
-}
-
-// What a call that may change the state leaves: the state, and where the next byte of the answers goes.
-#[derive(Clone, Copy)]
-struct Answered {
-    state: State,
-    at: usize,
-}
-
-fn read(s: State, arena: &[u8], out: &mut [u8], at: usize, addr: u16) -> Answered {
-    let r = board::cpu_read(s, arena, addr);
-    let state = r.state;
-    let next = answers::byte(out, at, r.refusal, r.byte);
-    Answered { state, at: next }
-}
-
-fn write(
-    s: State,
-    directory: &mut [u64],
-    arena: &mut [u8],
-    out: &mut [u8],
-    at: usize,
-    addr: u16,
-    val: u8,
-) -> Answered {
-    let r = blocks::cpu_write(directory, s, arena, addr, val);
-    let state = r.state;
-    let changed = r.changed;
-    let next = answers::written(out, at, r.refusal, changed);
-    Answered { state, at: next }
-}
-
-// Lends the first `room` of the samples.
-fn run_within(s: State, n: u64, room: usize, samples: &mut [f32]) -> Ran {
-    if samples.len() < room {
-        return call_run::run::run(s, n, samples);
-    }
-    call_run::run::run(s, n, &mut samples[..room])
-}
-
-fn run(s: State, out: &mut [u8], at: usize, n: u64, room: usize) -> Answered {
-    let mut samples = [0.0f32; 8192];
-    let r = run_within(s, n, room, &mut samples);
-    let state = r.state;
-    if r.refusal != 0 {
-        let next = answers::refused(out, at, r.refusal);
-        return Answered { state, at: next };
-    }
-    let next = answers::ran(out, at, r.rise, r.made, &samples);
-    Answered { state, at: next }
-}
-
-fn reset(s: State, out: &mut [u8], at: usize, kind: u64) -> Answered {
-    let r: Altered = call_reset::reset(s, kind);
-    let state = r.state;
-    let next = answers::ok(out, at, r.refusal);
-    Answered { state, at: next }
-}
-
-fn restore_battery(s: State, arena: &[u8], out: &mut [u8], at: usize) -> Answered {
-    let r: Altered = call_battery::restore_battery(s, arena);
-    let state = r.state;
-    let next = answers::ok(out, at, r.refusal);
-    Answered { state, at: next }
-}
-
-// The calls that may change the state; `answer` hands it no other.
-fn changing(
-    s: State,
-    call: Call,
-    directory: &mut [u64],
-    arena: &mut [u8],
-    out: &mut [u8],
-    at: usize,
-) -> Answered {
-    match call {
-        Call::Read(addr) => read(s, arena, out, at, addr),
-        Call::Write(addr, val) => write(s, directory, arena, out, at, addr, val),
-        Call::Run(n, room) => run(s, out, at, n, room),
-        Call::Reset(kind) => reset(s, out, at, kind),
-        Call::RestoreBattery => restore_battery(s, arena, out, at),
-        _ => Answered { state: s, at },
+        Layout::new(sizes).arena_len()
+    } else {
+        0
     }
 }
 
-fn peek(s: State, arena: &[u8], out: &mut [u8], at: usize, addr: u16) -> usize {
-    let r: Peeked = board::cpu_peek(s, arena, addr);
-    answers::byte(out, at, r.refusal, r.byte)
-}
-
-fn preview(
-    s: State,
-    directory: &[u64],
-    arena: &[u8],
-    out: &mut [u8],
-    at: usize,
-    addr: u16,
-    val: u8,
-) -> usize {
-    let r: Previewed = blocks::preview(directory, s, arena, addr, val);
-    let changed = r.changed;
-    answers::written(out, at, r.refusal, changed)
-}
-
-fn chr_read(s: State, arena: &[u8], out: &mut [u8], at: usize, addr: u16) -> usize {
-    let r: Peeked = call_regions::chr_read(s, arena, addr);
-    answers::byte(out, at, r.refusal, r.byte)
-}
-
-fn chr_write(
-    s: State,
-    directory: &mut [u64],
-    arena: &mut [u8],
-    out: &mut [u8],
-    at: usize,
-    addr: u16,
-    val: u8,
-) -> usize {
-    let refusal = blocks::chr_write(directory, s, arena, addr, val);
-    answers::ok(out, at, refusal)
-}
-
-// The first n of the bytes.
-fn fill(
-    s: State,
-    directory: &mut [u64],
-    arena: &mut [u8],
-    out: &mut [u8],
-    at: usize,
-    src: Src,
-    bytes: &[u8],
-    n: usize,
-) -> usize {
-    let named = within(n, bytes);
-    let refusal = call_blocks::calls::fill(directory, s, arena, src, &bytes[..named]);
-    answers::ok(out, at, refusal)
-}
-
-fn region_peek(s: State, arena: &[u8], out: &mut [u8], at: usize, src: Src, offset: u64) -> usize {
-    let r: Peeked = call_regions::region_peek(s, arena, src, offset);
-    answers::byte(out, at, r.refusal, r.byte)
-}
-
-fn region_write(
-    s: State,
-    directory: &mut [u64],
-    arena: &mut [u8],
-    out: &mut [u8],
-    at: usize,
-    src: Src,
-    offset: u64,
-    val: u8,
-) -> usize {
-    let refusal = blocks::region_write(directory, s, arena, src, offset, val);
-    answers::ok(out, at, refusal)
-}
-
-fn sram(s: State, out: &mut [u8], at: usize) -> usize {
-    let r = call_regions::sram(s);
-    answers::pair(out, at, r.refusal, r.start as u64, r.len as u64)
-}
-
-fn sync_battery(
-    s: State,
-    directory: &mut [u64],
-    arena: &mut [u8],
-    out: &mut [u8],
-    at: usize,
-) -> usize {
-    let refusal = call_blocks::calls::sync_battery(directory, s, arena);
-    answers::ok(out, at, refusal)
-}
-
-fn image_into(s: State, img: &mut [u8], out: &mut [u8], at: usize) -> usize {
-    let refusal = write_image(s, img);
-    answers::image(out, at, refusal, img)
-}
-
-fn image(s: State, out: &mut [u8], at: usize, len: usize) -> usize {
-    let mut img = [0u8; IMAGE_ROOM];
-    let n = within(len, &img);
-    image_into(s, &mut img[..n], out, at)
-}
-
-// The calls that leave the state as it is, and `answer` hands it no other: answers where the next byte of the answers goes.
-fn keeping(
-    s: State,
-    call: Call,
-    directory: &mut [u64],
-    arena: &mut [u8],
-    bytes: &[u8],
-    out: &mut [u8],
-    at: usize,
-) -> usize {
-    match call {
-        Call::Peek(addr) => peek(s, arena, out, at, addr),
-        Call::Preview(addr, val) => preview(s, directory, arena, out, at, addr, val),
-        Call::ChrRead(addr) => chr_read(s, arena, out, at, addr),
-        Call::ChrWrite(addr, val) => chr_write(s, directory, arena, out, at, addr, val),
-        Call::Fill(src, n) => fill(s, directory, arena, out, at, src, bytes, n),
-        Call::RegionPeek(src, offset) => region_peek(s, arena, out, at, src, offset),
-        Call::RegionWrite(src, offset, val) => {
-            region_write(s, directory, arena, out, at, src, offset, val)
+// The calls that may change the state.
+impl Player {
+    // The state after a call; a refused one leaves it.
+    fn keep(&mut self, after: Result<State, Refusal>) {
+        if let Ok(state) = after {
+            self.state = Some(state);
         }
-        Call::Sram => sram(s, out, at),
-        Call::SyncBattery => sync_battery(s, directory, arena, out, at),
-        Call::Image => image(s, out, at, IMAGE_BYTES),
-        Call::ImageIn(len) => image(s, out, at, len),
-        Call::Arena => answers::arena(out, at, arena),
-        _ => at,
+    }
+
+    // A refused load leaves the old cartridge, whose bytes lie in the same arena.
+    pub(crate) fn load(&mut self, cartridge: Cartridge) {
+        let old = self.arena.len();
+        let new = arena_len(cartridge.sizes);
+        // There is room for each arena: with none the load would be refused.
+        let _ = self.arena.resize(old.max(new), 0);
+        let lent = new.min(self.arena.len());
+        let loaded = call_blocks::calls::load(
+            &mut self.directory,
+            &mut self.arena[..lent],
+            cartridge.mapper,
+            cartridge.submapper,
+            cartridge.flags,
+            cartridge.known,
+            cartridge.sizes,
+            Options {
+                f800_protects: cartridge.f800_protects,
+            },
+        );
+        match loaded {
+            Ok(fresh) => {
+                self.state = Some(fresh);
+                self.arena.truncate(new);
+            }
+            Err(_) => self.arena.truncate(old),
+        }
+        answers::ok(&mut self.out, loaded.map(|_| ()));
+    }
+
+    pub(crate) fn read(&mut self, s: State, addr: u16) {
+        let read = board::cpu_read(s, &self.arena, addr);
+        self.keep(read.map(|r| r.state));
+        answers::byte(&mut self.out, read.map(|r| r.byte));
+    }
+
+    pub(crate) fn write(&mut self, s: State, addr: u16, val: u8) {
+        let written = blocks::cpu_write(&mut self.directory, s, &mut self.arena, addr, val);
+        self.keep(written.map(|w| w.state));
+        answers::written(&mut self.out, written.map(|w| w.changed));
+    }
+
+    // Lends the first `room` of the samples.
+    pub(crate) fn run(&mut self, s: State, clocks: u64, room: usize) {
+        let mut samples = [0.0f32; SAMPLES_ROOM];
+        let lent = room.min(SAMPLES_ROOM);
+        let ran = call_run::run::run(s, clocks, &mut samples[..lent]);
+        self.keep(ran.map(|r| r.state));
+        answers::ran(&mut self.out, ran.map(|r| (r.rise, r.made)), &samples);
+    }
+
+    pub(crate) fn reset(&mut self, s: State, kind: ResetKind) {
+        let after = call_reset::reset(s, kind as u64);
+        self.keep(after);
+        answers::ok(&mut self.out, after.map(|_| ()));
+    }
+
+    pub(crate) fn restore_battery(&mut self, s: State) {
+        let after = call_battery::restore_battery(s, &self.arena);
+        self.keep(after);
+        answers::ok(&mut self.out, after.map(|_| ()));
     }
 }
 
-// A call on the loaded cartridge, whose arena is lent.
-pub fn answer(
-    mut p: Player,
-    call: Call,
-    directory: &mut [u64],
-    arena: &mut [u8],
-    bytes: &[u8],
-    out: &mut [u8],
-) -> Player {
-    let s = p.state;
-    let at = p.out_len;
-    match call {
-        Call::Read(_)
-        | Call::Write(_, _)
-        | Call::Run(_, _)
-        | Call::Reset(_)
-        | Call::RestoreBattery => {
-            let r = changing(s, call, directory, arena, out, at);
-            let after = r.state;
-            p.state = after;
-            p.out_len = r.at;
-            p
-        }
-        _ => {
-            p.out_len = keeping(s, call, directory, arena, bytes, out, at);
-            p
-        }
+// The calls that leave the state as it is.
+impl Player {
+    pub(crate) fn peek(&mut self, s: State, addr: u16) {
+        answers::byte(&mut self.out, board::cpu_peek(s, &self.arena, addr));
+    }
+
+    pub(crate) fn preview(&mut self, s: State, addr: u16, val: u8) {
+        let changed = blocks::preview(&self.directory, s, &self.arena, addr, val);
+        answers::written(&mut self.out, changed);
+    }
+
+    pub(crate) fn chr_read(&mut self, s: State, addr: u16) {
+        answers::byte(&mut self.out, call_regions::chr_read(s, &self.arena, addr));
+    }
+
+    pub(crate) fn chr_write(&mut self, s: State, addr: u16, val: u8) {
+        let answer = blocks::chr_write(&mut self.directory, s, &mut self.arena, addr, val);
+        answers::ok(&mut self.out, answer);
+    }
+
+    pub(crate) fn fill(&mut self, s: State, src: Src, bytes: &[u8]) {
+        let answer = call_blocks::calls::fill(&mut self.directory, s, &mut self.arena, src, bytes);
+        answers::ok(&mut self.out, answer);
+    }
+
+    pub(crate) fn region_peek(&mut self, s: State, src: Src, offset: u64) {
+        let byte = call_regions::region_peek(s, &self.arena, src, offset);
+        answers::byte(&mut self.out, byte);
+    }
+
+    pub(crate) fn region_write(&mut self, s: State, src: Src, offset: u64, val: u8) {
+        let answer = blocks::region_write(
+            &mut self.directory,
+            s,
+            &mut self.arena,
+            src,
+            offset,
+            val,
+        );
+        answers::ok(&mut self.out, answer);
+    }
+
+    pub(crate) fn sram(&mut self, s: State) {
+        let span = call_regions::sram(s);
+        let pair = span.map(|p| (p.start as u64, p.len as u64));
+        answers::pair(&mut self.out, pair);
+    }
+
+    pub(crate) fn sync_battery(&mut self, s: State) {
+        let answer = call_blocks::calls::sync_battery(&mut self.directory, s, &mut self.arena);
+        answers::ok(&mut self.out, answer);
+    }
+
+    // The image in so many bytes, or at its shorter length.
+    pub(crate) fn image(&mut self, s: State, len: Option<usize>) {
+        let mut room = [0u8; IMAGE_ROOM];
+        let lent = len.unwrap_or(IMAGE_BYTES).min(IMAGE_ROOM);
+        let answer = write_image(s, &mut room[..lent]);
+        answers::image(&mut self.out, answer.map(|()| &room[..lent]));
+    }
+}
+
+// The calls on the directory alone, which take neither state nor arena.
+impl Player {
+    pub(crate) fn register(&mut self, start: u16, len: u64, number: u32) {
+        let answer = directory::register(&mut self.directory, start, len, number);
+        answers::ok(&mut self.out, answer);
+    }
+
+    pub(crate) fn lookup(&mut self, start: u16) {
+        let found = directory::lookup(&self.directory, start);
+        replay_answers::blocks::found(&mut self.out, found);
     }
 }

@@ -1,8 +1,7 @@
--- Laws of the definitions, at an index of a list.
-pub mod Lists
+-- Laws of the definitions.
 pub mod Words
-pub mod Hex
 pub mod Decimal
-pub mod Number
 pub mod Out
-pub mod Adler
+pub mod Hex
+pub mod Number
+pub mod Wide

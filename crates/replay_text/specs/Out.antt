@@ -1,18 +1,18 @@
--- A buffer that is written from a place on. What no longer fits is left out.
-use Rattle.std.specs.Prelude.{ℕ, ◌+◌, cond, List, [], ◌∷◌, ltb, length, set}
+-- Bytes that are put one after the other, up to a room. What no longer fits is left out.
+use Rattle.std.specs.Prelude.{ℕ, cond, List, [], ◌∷◌, ◌++◌, ltb, length}
 
--- the buffer's bytes, and where the next one goes
+-- the bytes so far, and how many there may be
 pub record Put : Type 0 where
   pub bytes : List ℕ
-  pub next : ℕ
+  pub room : ℕ
 
--- a buffer that is to be written from `next` on
-abbrev pub put_to : List ℕ → ℕ → Put
-put_to bytes next = record { bytes = bytes; next = next }
+-- no byte so far
+abbrev pub put_none : ℕ → Put
+put_none room = record { bytes = []; room = room }
 
--- one byte put: past the end nothing is stored, and nothing moves
+-- one byte put: past the room nothing is stored
 unfoldable pub put_one : Put → ℕ → Put
-put_one p b = put_to (set p.bytes p.next b) (cond (ltb p.next (length p.bytes)) (p.next + 1) p.next)
+put_one p b = record { bytes = cond (ltb (length p.bytes) p.room) (p.bytes ++ b ∷ []) p.bytes; room = p.room }
 
 -- bytes put one after the other
 unfoldable pub put_all : Put → List ℕ → Put

@@ -1,25 +1,23 @@
 -- The words of a line: between two of them stands a single space.
-use Rattle.std.specs.Prelude.{ℕ, zero, suc, ◌+◌, ◌-◌, cond, List, [], ◌∷◌, eqb, take}
+use Rattle.std.specs.Prelude.{ℕ, zero, suc, cond, List, [], ◌∷◌, ◌==◌, take, count_by, Bool}
+use Rattle.std.specs.List.{position_or_len}
 
--- 1 for a space, 0 for any other byte
-abbrev pub is_space : ℕ → ℕ
-is_space b = cond (eqb b 32) 1 0
+abbrev pub is_space : ℕ → Bool
+is_space b = b == 32
 
 -- how many spaces a line has
-unfoldable pub spaces_in : List ℕ → ℕ
-spaces_in [] = 0
-spaces_in (b ∷ s) = is_space b + spaces_in s
+abbrev pub spaces_in : List ℕ → ℕ
+spaces_in = count_by is_space
 
 -- what stands behind the n-th space: nothing where there are fewer
 unfoldable pub behind : ℕ → List ℕ → List ℕ
 behind n [] = []
 behind zero (b ∷ s) = b ∷ s
-behind (suc n) (b ∷ s) = behind (suc n - is_space b) s
+behind (suc n) (b ∷ s) = behind (cond (is_space b) n (suc n)) s
 
 -- how many bytes stand before the first space, or the end
-unfoldable pub word_length : List ℕ → ℕ
-word_length [] = 0
-word_length (b ∷ s) = cond (eqb b 32) 0 (suc (word_length s))
+abbrev pub word_length : List ℕ → ℕ
+word_length = position_or_len is_space
 
 -- the bytes before the first space
 abbrev pub first_word : List ℕ → List ℕ

@@ -1,30 +1,19 @@
 // Hexadecimal digits and pairs of them.
-ghost use Rattle.std.specs.Prelude.{◌≤◌, ◌<◌, ◌≡◌};
-ghost use Rattle.replay_text.specs.Hex.{digit_of, glyph_of, decoded_of, decoded_to};
+ghost use Rattle.std.specs.Prelude.{◌≤◌, ◌<◌, ◌≡◌, IfSome, length};
+ghost use Rattle.replay_text.specs.Hex.{digit_of, glyph_of, pair_of, decoded_of, decoded_to};
 
-// A digit's value in either case, or 16.
-pub fn digit(b: u8) -> u8
-    ensures { (result ≡ digit_of b) × (result ≤ 16) }
+// A digit's value in either case.
+#[tactic(auto, unfolding(crate::specs::Hex::digit_of))]
+pub fn digit(b: u8) -> Option<u8>
+    ensures value { result ≡ digit_of b }
+    ensures below { IfSome result (λ d. d < 16) }
 {
-    if b < b'0' {
-        return 16;
+    match b {
+        b'0'..=b'9' => Some(b - b'0'),
+        b'A'..=b'F' => Some(b - b'A' + 10),
+        b'a'..=b'f' => Some(b - b'a' + 10),
+        _ => None,
     }
-    if b <= b'9' {
-        return b - b'0';
-    }
-    if b < b'A' {
-        return 16;
-    }
-    if b <= b'F' {
-        return b - b'A' + 10;
-    }
-    if b < b'a' {
-        return 16;
-    }
-    if b <= b'f' {
-        return b - b'a' + 10;
-    }
-    16
 }
 
 // The upper case digit of a number below 16.
@@ -32,39 +21,28 @@ pub fn glyph(d: u8) -> u8
     requires { d < 16 }
     ensures { result ≡ glyph_of d }
 {
-    if d < 10 { 48 + d } else { 55 + d }
+    if d < 10 { b'0' + d } else { b'A' + (d - 10) }
 }
 
-#[derive(Clone, Copy)]
-pub enum Decoded {
-    Bytes(usize),
-    Nothing,
+// The byte that two digits name, the high one first.
+fn pair(high: u8, low: u8) -> Option<u8>
+    ensures { result ≡ pair_of high low }
+{
+    Some(16 * digit(high)? + digit(low)?)
 }
 
-// Puts the bytes that pairs of digits name at the start of a buffer.
-pub fn decode(digits: &[u8], bytes: &mut [u8]) -> Decoded
+// Puts the bytes that pairs of digits name at the start of a buffer, and answers how many they are.
+pub fn decode(digits: &[u8], bytes: &mut [u8]) -> Option<usize>
     ensures value { result ≡ decoded_of digits.now bytes.old }
     ensures bytes_after { bytes.new ≡ decoded_to digits.now bytes.old }
+    ensures within { IfSome result (λ n. n ≤ length bytes.old) }
 {
     let n = digits.len() / 2;
-    if digits.len() % 2 == 1 {
-        return Decoded::Nothing;
+    if digits.len() % 2 == 1 || bytes.len() < n {
+        return None;
     }
-    if bytes.len() < n {
-        return Decoded::Nothing;
+    for i in 0..n {
+        bytes[i] = pair(digits[2 * i], digits[2 * i + 1])?;
     }
-    let mut i: usize = 0;
-    while i < n {
-        let high = digit(digits[2 * i]);
-        let low = digit(digits[2 * i + 1]);
-        if 15 < high {
-            return Decoded::Nothing;
-        }
-        if 15 < low {
-            return Decoded::Nothing;
-        }
-        bytes[i] = 16 * high + low;
-        i += 1;
-    }
-    Decoded::Bytes(n)
+    Some(n)
 }

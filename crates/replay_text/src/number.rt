@@ -1,53 +1,37 @@
 // Numbers: decimal, or hexadecimal behind a `$`.
 ghost use Rattle.std.specs.Prelude.{◌<◌, ◌≡◌};
-ghost use Rattle.replay_text.specs.Number.{digits_after, in_base, number_of};
+ghost use Rattle.replay_text.specs.Number.{one_more, in_base, number_of};
 
 use crate::hex::digit;
 
-#[derive(Clone, Copy)]
-pub enum Number {
-    Value(u64),
-    Nothing,
-}
-
-fn in_base(digits: &[u8], base: u64) -> Number
-    requires { 0 < base }
-    ensures { result ≡ digits_after base 0 digits.now }
+// A number with one more digit.
+fn one_more(value: u64, base: u64, digit: u64) -> Option<u64>
+    ensures { result ≡ one_more base value digit }
 {
-    let mut value: u64 = 0;
-    let mut i: usize = 0;
-    while i < digits.len() {
-        let d = digit(digits[i]) as u64;
-        if base <= d {
-            return Number::Nothing;
-        }
-        if (u64::MAX - d) / base < value {
-            return Number::Nothing;
-        }
-        value = value * base + d;
-        i += 1;
+    if base <= digit {
+        return None;
     }
-    Number::Value(value)
+    value.checked_mul(base)?.checked_add(digit)
 }
 
-fn digits_in_base(digits: &[u8], base: u64) -> Number
-    requires { 0 < base }
+fn in_base(digits: &[u8], base: u64) -> Option<u64>
     ensures { result ≡ in_base base digits.now }
 {
-    if digits.len() == 0 {
-        return Number::Nothing;
+    if digits.is_empty() {
+        return None;
     }
-    in_base(digits, base)
+    let mut value: u64 = 0;
+    for &b in digits {
+        value = one_more(value, base, u64::from(digit(b)?))?;
+    }
+    Some(value)
 }
 
-pub fn parse_number(word: &[u8]) -> Number
+pub fn parse_number(word: &[u8]) -> Option<u64>
     ensures { result ≡ number_of word.now }
 {
-    if word.len() == 0 {
-        return Number::Nothing;
+    if !word.is_empty() && word[0] == b'$' {
+        return in_base(&word[1..], 16);
     }
-    if word[0] == b'$' {
-        return digits_in_base(&word[1..], 16);
-    }
-    digits_in_base(word, 10)
+    in_base(word, 10)
 }

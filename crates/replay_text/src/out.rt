@@ -1,67 +1,91 @@
-// Writing behind what a buffer holds already. What no longer fits is left out.
-ghost use Rattle.std.specs.Prelude.{◌≡◌};
+// Bytes that are put one after the other, up to a room. What no longer fits is left out.
+ghost use Rattle.std.specs.Prelude.{◌≡◌, ◌≤◌, [], length, IfOk, vec_len, vec_capacity, IsTrue, ◌↔◌};
 ghost use Rattle.replay_text.specs.Decimal.{decimal_of};
-ghost use Rattle.replay_text.specs.Hex.{hex8, hex16, hex32, hex64};
-ghost use Rattle.replay_text.specs.Out.{put_to, put_one, put_all};
+ghost use Rattle.replay_text.specs.Hex.{hex_of};
+ghost use Rattle.replay_text.specs.Out.{Put, put_none, put_one, put_all};
 
 use crate::hex::glyph;
+use std::alloc::{AllocError, Global};
+use std::marker::Model;
 
-// Answers where the next byte goes.
-pub fn put(out: &mut [u8], at: usize, b: u8) -> usize
-    ensures { put_to out.new result ≡ put_one (put_to out.old at) b }
-{
-    if at < out.len() {
-        out[at] = b;
-        return at + 1;
+#[derive(Drop)]
+pub struct Out {
+    bytes: Vec<u8>,
+    room: usize,
+}
+
+// Clauses see the bytes and the room.
+impl Model for Out {
+    ghost Value = { Put };
+
+    ghost view = { λ o. record { bytes = o.bytes.items; room = o.room } };
+
+    ghost invariant = { λ o. (vec_len o.bytes ≤ o.room) × (o.room ≤ vec_capacity o.bytes) };
+}
+
+impl Out {
+    pub fn with_room(alloc: Global, room: usize) -> Result<Out, AllocError>
+        ensures { IfOk result (λ o. o ≡ put_none room) }
+    {
+        let bytes = Vec::with_capacity(alloc, room)?;
+        Ok(Out { bytes, room })
     }
-    at
-}
 
-pub fn put_all(out: &mut [u8], at: usize, bytes: &[u8]) -> usize
-    ensures { put_to out.new result ≡ put_all (put_to out.old at) bytes.now }
-{
-    let mut end = at;
-    let mut i: usize = 0;
-    while i < bytes.len() {
-        end = put(out, end, bytes[i]);
-        i += 1;
+    pub fn as_slice(&self) -> &[u8]
+        ensures { result.now ≡ self.now.bytes }
+    {
+        self.bytes.as_slice()
     }
-    end
-}
 
-pub fn put_decimal(out: &mut [u8], at: usize, n: u64) -> usize
-    ensures { put_to out.new result ≡ put_all (put_to out.old at) (decimal_of n) }
-{
-    let mut digits = [0u8; 20];
-    let k = io::decimal(n, &mut digits);
-    put_all(out, at, &digits[..k])
-}
+    pub fn len(&self) -> usize
+        ensures { result ≡ length self.now.bytes }
+    {
+        self.bytes.len()
+    }
 
-// Two upper case digits; so many for each width below.
-pub fn put_hex8(out: &mut [u8], at: usize, b: u8) -> usize
-    ensures { put_to out.new result ≡ put_all (put_to out.old at) (hex8 b) }
-{
-    let next = put(out, at, glyph(b / 16));
-    put(out, next, glyph(b % 16))
-}
+    pub fn is_full(&self) -> bool
+        ensures { IsTrue result ↔ (length self.now.bytes ≡ self.now.room) }
+    {
+        self.bytes.len() == self.room
+    }
 
-pub fn put_hex16(out: &mut [u8], at: usize, n: u16) -> usize
-    ensures { put_to out.new result ≡ put_all (put_to out.old at) (hex16 n) }
-{
-    let next = put_hex8(out, at, (n / 256) as u8);
-    put_hex8(out, next, (n % 256) as u8)
-}
+    pub fn clear(&mut self)
+        ensures { self.new ≡ put_none self.old.room }
+    {
+        self.bytes.clear();
+    }
 
-pub fn put_hex32(out: &mut [u8], at: usize, n: u32) -> usize
-    ensures { put_to out.new result ≡ put_all (put_to out.old at) (hex32 n) }
-{
-    let next = put_hex16(out, at, (n / 65_536) as u16);
-    put_hex16(out, next, (n % 65_536) as u16)
-}
+    #[tactic(auto, unfolding(crate::specs::Out::put_one))]
+    pub fn put(&mut self, b: u8)
+        ensures { self.new ≡ put_one self.old b }
+    {
+        if self.bytes.len() < self.room {
+            self.bytes.push(b).unwrap();
+        }
+    }
 
-pub fn put_hex64(out: &mut [u8], at: usize, n: u64) -> usize
-    ensures { put_to out.new result ≡ put_all (put_to out.old at) (hex64 n) }
-{
-    let next = put_hex32(out, at, (n / 4_294_967_296) as u32);
-    put_hex32(out, next, (n % 4_294_967_296) as u32)
+    pub fn put_all(&mut self, bytes: &[u8])
+        ensures { self.new ≡ put_all self.old bytes.now }
+    {
+        let fits = bytes.len().min(self.room - self.bytes.len());
+        self.bytes.extend_from_slice(&bytes[..fits]).unwrap();
+    }
+
+    pub fn put_decimal(&mut self, n: u64)
+        ensures { self.new ≡ put_all self.old (decimal_of n) }
+    {
+        let mut digits = [0u8; 20];
+        let k = io::decimal(n, &mut digits);
+        self.put_all(&digits[..k]);
+    }
+
+    // Two upper case digits for each byte.
+    pub fn put_hex(&mut self, bytes: &[u8])
+        ensures { self.new ≡ put_all self.old (hex_of bytes.now) }
+    {
+        for &b in bytes {
+            self.put(glyph(b / 16));
+            self.put(glyph(b % 16));
+        }
+    }
 }

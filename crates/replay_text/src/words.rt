@@ -1,61 +1,53 @@
 // Words of a line, each behind one space.
-ghost use Rattle.std.specs.Prelude.{◌+◌, ◌≤◌, ◌≡◌, length, drop};
-ghost use Rattle.replay_text.specs.Words.{is_space, spaces_in, behind, word_length, word_at};
-
-fn is_space(b: u8) -> usize
-    ensures { (result ≡ is_space b) × (result ≤ 1) }
-{
-    if b == b' ' { 1 } else { 0 }
-}
+ghost use Rattle.std.specs.Prelude.{◌+◌, ◌≤◌, ◌≡◌, length, drop, ◌==◌, position};
+ghost use Rattle.replay_text.specs.Words.{spaces_in, behind, first_word, word_at};
 
 pub fn spaces(line: &[u8]) -> usize
     ensures { result ≡ spaces_in line.now }
 {
-    let mut n: usize = 0;
-    let mut i: usize = 0;
-    while i < line.len() {
-        n += is_space(line[i]);
-        i += 1;
-    }
-    n
+    line.iter().filter(|&&b| b == b' ').count()
 }
 
-// Where the word behind the n-th space begins: the line's end where there are fewer.
-fn start(line: &[u8], n: usize) -> usize
-    ensures { (result ≤ length line.now) × (drop result line.now ≡ behind n line.now) }
+// Where the first space stands.
+fn first_space(line: &[u8]) -> Option<usize>
+    ensures { result ≡ position (λ b. b == 32) line.now }
 {
-    let mut left = n;
-    let mut i: usize = 0;
-    while i < line.len() {
-        if left == 0 {
-            return i;
-        }
-        left -= is_space(line[i]);
-        i += 1;
-    }
-    i
+    line.iter().position(|&b| b == b' ')
 }
 
-// Where the word that begins there ends.
-fn end(line: &[u8], from: usize) -> usize
-    requires { from ≤ length line.now }
-    ensures { (from ≤ result) × (result ≤ length line.now) × (result ≡ from + word_length (drop from line.now)) }
+// What stands behind the first space: nothing where there is none.
+fn after_space(line: &[u8]) -> &[u8]
+    ensures { result.now ≡ behind 1 line.now }
 {
-    let mut i = from;
-    while i < line.len() {
-        if line[i] == b' ' {
-            return i;
-        }
-        i += 1;
+    match first_space(line) {
+        Some(at) => &line[at + 1..],
+        None => &[],
     }
-    i
+}
+
+// What stands behind the n-th space: nothing where there are fewer.
+fn behind(line: &[u8], n: usize) -> &[u8]
+    ensures { result.now ≡ behind n line.now }
+{
+    let mut rest = line;
+    for _ in 0..n {
+        rest = after_space(rest);
+    }
+    rest
+}
+
+fn first_word(line: &[u8]) -> &[u8]
+    ensures { result.now ≡ first_word line.now }
+{
+    match first_space(line) {
+        Some(at) => &line[..at],
+        None => line,
+    }
 }
 
 // The word behind the n-th space: an empty one where there are fewer.
 pub fn word(line: &[u8], n: usize) -> &[u8]
     ensures { result.now ≡ word_at n line.now }
 {
-    let a = start(line, n);
-    let e = end(line, a);
-    &line[a..e]
+    first_word(behind(line, n))
 }

@@ -1,13 +1,9 @@
 -- S10: reads one after another, of the port and of the Rust's `read_register` at 4800.
-use Rattle.std.specs.Prelude.{ℕ, zero, suc, Bool, List, [], ◌∷◌}
+use Rattle.std.specs.Prelude.{ℕ, zero, suc, List, [], ◌∷◌}
 use Rattle.sound.specs.declared.audio.Audio.{Audio}
 use Rattle.sound.specs.Registers.{read_of}
 use Rattle.sound_port.specs.declared.lent.Port.{Port}
 use Rattle.sound_port.specs.Lent.{byte_of, after_read}
-
--- a port by its three fields
-abbrev pub port_at : List ℕ → ℕ → Bool → Port
-port_at ram addr auto = record { ram = ram; addr = addr; auto_increment = auto }
 
 -- the bytes of n reads
 unfoldable pub reads : ℕ → Port → List ℕ

@@ -1,6 +1,6 @@
-// `step` does the work on a port by value. `read` is thin: it copies the lent port out, calls `step`, and stores what comes back.
+// `step` does the work on a port by value. `read` is thin: it calls `step` on the lent port, and stores what comes back.
 ghost use Rattle.std.specs.Prelude.{◌≡◌};
-ghost use Rattle.sound_port.specs.Lent.{step_of, byte_of, after_read};
+ghost use Rattle.sound_port.specs.Lent.{step_of, byte_of, after_read, port_of};
 
 use sound::audio::Audio;
 
@@ -19,32 +19,41 @@ pub struct PortRead {
     pub port: Port,
 }
 
-// The address register has seven bits, so an address of 128 or more counts by its remainder.
-pub fn step(port: Port) -> PortRead
-    ensures { result ≡ step_of port }
-{
-    let at = port.addr % Audio::RAM_SIZE;
-    let byte = port.ram[at];
-    let mut moved = port;
-    moved.addr = (at + 1) % Audio::RAM_SIZE;
-    if port.auto_increment {
-        return PortRead { byte, port: moved };
+impl Port {
+    // The port of a sound chip.
+    pub fn of(audio: Audio) -> Port
+        ensures { result ≡ port_of audio }
+    {
+        let Audio {
+            ram,
+            addr,
+            auto_increment,
+            ..
+        } = audio;
+        Port {
+            ram,
+            addr,
+            auto_increment,
+        }
     }
-    PortRead { byte, port }
-}
 
-pub fn read(port: &mut Port) -> u8
-    ensures { (result ≡ byte_of port.old) × (port.new ≡ after_read port.old) }
-{
-    let s = step(*port);
-    *port = s.port;
-    s.byte
-}
+    // The address register has seven bits, so an address of 128 or more counts by its remainder.
+    pub fn step(mut self) -> PortRead
+        ensures { result ≡ step_of self }
+    {
+        let at = self.addr % Audio::RAM_SIZE;
+        let byte = self.ram[at];
+        if self.auto_increment {
+            self.addr = (at + 1) % Audio::RAM_SIZE;
+        }
+        PortRead { byte, port: self }
+    }
 
-// A port by value, lent to `read`: whoever calls this needs no proof of a loan.
-pub fn read_of(mut p: Port) -> PortRead
-    ensures { result ≡ step_of p }
-{
-    let byte = read(&mut p);
-    PortRead { byte, port: p }
+    pub fn read(&mut self) -> u8
+        ensures { (result ≡ byte_of self.old) × (self.new ≡ after_read self.old) }
+    {
+        let PortRead { byte, port } = self.step();
+        *self = port;
+        byte
+    }
 }

@@ -1,20 +1,12 @@
 // Reads the sound RAM through the lent port, prints it, and compares each byte with `read_register` of a sound chip that holds the same.
 #![tactic(auto)]
 
-ghost use Rattle.std.specs.Prelude.{◌≡◌, cond, ◌≤◌, ◌<◌, eqb, length};
+ghost use Rattle.std.specs.Prelude.{◌≡◌, ◌<◌, length};
 ghost use Rattle.sound_port_run.specs.Agree.{agree};
 
 use sound::audio::Audio;
-use std::io;
-
-fn equal(a: u8, b: u8) -> usize
-    ensures { (result ≡ cond (eqb a b) 1 0) × (result ≤ 1) }
-{
-    if a == b {
-        return 1;
-    }
-    0
-}
+use sound_port::Port;
+use std::{array, io};
 
 // How many of the bytes are those that as many calls of `read_register` give.
 fn agreeing(audio: Audio, bytes: &[u8]) -> usize
@@ -23,27 +15,28 @@ fn agreeing(audio: Audio, bytes: &[u8]) -> usize
 {
     let mut a = audio;
     let mut same: usize = 0;
-    let mut i: usize = 0;
-    while i < bytes.len() {
-        let byte = a.read_register(0x4800);
-        same += equal(byte, bytes[i]);
-        i += 1;
+    for &byte in bytes {
+        if a.read_register(0x4800) == byte {
+            same += 1;
+        }
     }
     same
 }
 
+fn print_row<P: Print>(rt: &P, row: &[u8]) -> io::Result<()> {
+    for (i, byte) in row.iter().enumerate() {
+        if i != 0 {
+            print!(rt; " ")?;
+        }
+        print!(rt; "{byte:02x}")?;
+    }
+    println!(rt; "")
+}
+
 // Rows of sixteen bytes.
 fn print_rows<P: Print>(rt: &P, bytes: &[u8]) -> io::Result<()> {
-    let mut i: usize = 0;
-    while i < bytes.len() {
-        let byte = bytes[i];
-        print!(rt; "{byte:02x}")?;
-        i += 1;
-        if i % 16 == 0 {
-            rt.write_all(b"\n")?;
-        } else {
-            rt.write_all(b" ")?;
-        }
+    for row in bytes.chunks(16) {
+        print_row(rt, row)?;
     }
     Ok(())
 }
@@ -53,8 +46,7 @@ fn show(audio: Audio, bytes: &mut [u8]) -> usize
     requires { audio.addr < 128 }
     ensures { result ≡ length bytes.old }
 {
-    let ram = audio.ram;
-    sound_port::block::read_block(ram, audio.addr, audio.auto_increment, bytes);
+    Port::of(audio).read_block(bytes);
     agreeing(audio, bytes)
 }
 
@@ -62,13 +54,10 @@ fn show(audio: Audio, bytes: &mut [u8]) -> usize
 fn numbered() -> Audio
     ensures { result.addr ≡ 0 }
 {
-    let mut a = Audio::new();
-    let mut i: u8 = 0;
-    while i < 128 {
-        a.ram[i as usize] = i;
-        i += 1;
+    Audio {
+        ram: array::from_fn(|i| i as u8),
+        ..Audio::new()
     }
-    a
 }
 
 fn main(rt: HostRuntime) -> io::Result<()> {

@@ -6,8 +6,9 @@ use native.Mathlib.Nat.{one-mul, not-suc-le-zero, le_of_suc-le-suc, mul-le-mul, 
 use native.Mathlib.Numerals.{add-one}
 use native.Mathlib.Omega.{arith}
 use lib.Pow.{pow-add, pow_mono, shl_exact}
-use lib.ListN.{length, take, drop, set, get_or, length-append, length-replicate, replicate-append-replicate, length-drop}
-use lib.Seq.{take-suc, take-suc-set, get_or-drop, paste, paste-suc}
+use lib.ListN.{replicate, length, take, drop, set, get_or, length-append, length-replicate, replicate-append-replicate, length-drop}
+use lib.Seq.{take-suc, get_or-drop, paste, paste-suc, length-take-le}
+use Rattle.std.proofs.lemmas.List.{get_or-take}
 use Rattle.bits.specs.Fields.{total, pack, unpack, Fit}
 use Rattle.bits.specs.Words.{word_of, eights}
 use Rattle.bits.proofs.Fields.{pack-append, pack-unpack, unpack-pack, length-unpack, total-replicate}
@@ -34,33 +35,38 @@ one_shl k h = shl_exact 1 k 64 (omega arith) (omega arith) ∙ one-mul (2 ^ k)
 pub length-bytes : (k n : ℕ) → length (unpack (eights k) n) ≡ k
 length-bytes k n = length-unpack (eights k) n ∙ length-replicate k 8
 
+-- field j of k of b bits
+pub field_at : (b k j x : ℕ) → j < k → get_or (unpack (replicate k b) x) j 0 ≡ x / 2 ^ ((k - 1 - j) * b) % 2 ^ b
+unfolding unpack
+field_at b zero j x h = absurd (not-suc-le-zero h)
+field_at b (suc k) zero x h = rw (total-replicate k b, let e : suc k - 1 - 0 ≡ k = omega arith in e)
+field_at b (suc k) (suc j) x h = rw (let e : suc k - 1 - suc j ≡ k - 1 - j = omega arith in e) (field_at b k j x (le_of_suc-le-suc h))
+
 -- byte j of k
 pub byte_at : (k j x : ℕ) → j < k → get_or (unpack (eights k) x) j 0 ≡ x / 2 ^ ((k - 1 - j) * 8) % 2 ^ 8
-unfolding unpack
-byte_at zero j x h = absurd (not-suc-le-zero h)
-byte_at (suc k) zero x h = rw (total-eights k, let e : suc k - 1 - 0 ≡ k = omega arith in e)
-byte_at (suc k) (suc j) x h = rw (let e : suc k - 1 - suc j ≡ k - 1 - j = omega arith in e) (byte_at k j x (le_of_suc-le-suc h))
+byte_at k j x h = field_at 8 k j x h
 
 -- ---- reading byte after byte
 
 pub pow8 : (j : ℕ) → 2 ^ ((j + 1) * 8) ≡ 2 ^ (j * 8) * 2 ^ 8
 pow8 j = ap (λ (e : ℕ). 2 ^ e) (let e : (j + 1) * 8 ≡ j * 8 + 8 = omega arith in e) ∙ pow-add 2 (j * 8) 8
 
-pub load-zero : (acc : ℕ) (img : List ℕ) (at : ℕ) → acc ≡ acc * 2 ^ (0 * 8) + word_of (take 0 (drop at img))
-unfolding pack
-load-zero acc img at = omega arith
+-- k bytes from a place on
+pub length-part : (img : List ℕ) (at k : ℕ) → at + k ≤ length img → length (take (at + k - at) (drop at img)) ≡ k
+length-part img at k h = rw (let n : at + k - at ≡ k = omega arith in n) (length-take-le k (drop at img) (rw length-drop (omega arith)))
 
-pub load-suc : (acc a : ℕ) (img : List ℕ) (at j : ℕ) → at + j < length img → a ≡ acc * 2 ^ (j * 8) + word_of (take j (drop at img))
-    → a * 256 + get_or img (at + j) 0 ≡ acc * 2 ^ ((j + 1) * 8) + word_of (take (j + 1) (drop at img))
-load-suc acc a img at j h e =
-    let l : j < length (drop at img) = omega (arith, length-drop at img) in
-    rw (
-      pow8 j,
-      add-one j,
-      take-suc (drop at img) j 0 l,
-      word-snoc (take j (drop at img)) (get_or (drop at img) j 0),
-      get_or-drop at img j 0,
-    ) (omega arith)
+pub part_lt : (img : List ℕ) (at k j : ℕ) → ((i : ℕ) → get_or img i 0 < 2 ^ 8) → j < k
+    → get_or (take (at + k - at) (drop at img)) j 0 < 256
+part_lt img at k j h l =
+    rw (let n : at + k - at ≡ k = omega arith in n, get_or-take k (drop at img) j 0 l, get_or-drop at img j 0) (h (at + j))
+
+pub load-zero : (acc : ℕ) (xs : List ℕ) → acc ≡ acc * 2 ^ (0 * 8) + word_of (take 0 xs)
+unfolding pack
+load-zero acc xs = omega arith
+
+pub load-suc : (acc a : ℕ) (xs : List ℕ) (j : ℕ) → j < length xs → a ≡ acc * 2 ^ (j * 8) + word_of (take j xs)
+    → a * 256 + get_or xs j 0 ≡ acc * 2 ^ ((j + 1) * 8) + word_of (take (j + 1) xs)
+load-suc acc a xs j h e = rw (pow8 j, add-one j, take-suc xs j 0 h, word-snoc (take j xs) (get_or xs j 0)) (omega arith)
 
 pub load-small : (acc a b j : ℕ) → a < (acc + 1) * 2 ^ (j * 8) → b < 256 → a * 256 + b < (acc + 1) * 2 ^ ((j + 1) * 8)
 load-small acc a b j h l = rw pow8 (omega arith)
@@ -91,16 +97,3 @@ fit-bytes (x ∷ xs) h = (h 0, fit-bytes xs (λ i. h (suc i)))
 -- bytes are those of their number
 pub bytes-of-word : (xs : List ℕ) → ((i : ℕ) → get_or xs i 0 < 2 ^ 8) → unpack (eights (length xs)) (word_of xs) ≡ xs
 bytes-of-word xs h = unpack-pack (eights (length xs)) xs (fit-bytes xs h)
-
--- ---- copying byte after byte
-
-pub copy-suc : (img xs : List ℕ) (at j : ℕ) → j < length xs → at + j < length img → take j xs ≡ take j (drop at img)
-    → take (j + 1) (set xs j (get_or img (at + j) 0)) ≡ take (j + 1) (drop at img)
-copy-suc img xs at j h l e =
-    rw (
-      add-one j,
-      take-suc-set xs j (get_or img (at + j) 0) h,
-      take-suc (drop at img) j 0 (omega (arith, length-drop at img)),
-      get_or-drop at img j 0,
-      e,
-    )

@@ -11,7 +11,7 @@ returns-in_err-check_arena c = passed _ _ c.from_residual.ensures.1 ∙ arena-re
 
 pub region-requires : goal.region-requires
 region-requires c =
-    let g = (memory-good _ (arena-good _ _ (sym c.in_ok-check_arena.ensures)).good).ranged.sized in (g.layout, g.used)
+    (memory-good _ (arena-good _ _ (sym c.in_ok-check_arena.ensures)).good).ranged.sized
 
 pub returns-then-region-n : goal.returns-then-region-n
 returns-then-region-n c =

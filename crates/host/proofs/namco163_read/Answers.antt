@@ -4,7 +4,7 @@ use mathlib.Core.Path.{◌≡◌}
 use mathlib.Core.List.{List}
 use native.Mathlib.Omega.{arith}
 use lib.ListN.{length}
-use Rattle.image_read.specs.declared.reading.ReadImage.{ReadImage}
+use Rattle.image_read.specs.Reading.{ReadImage}
 use Rattle.image_read.specs.Reading.{read_image}
 use Rattle.host_state.specs.HostState.{read_gives}
 use Rattle.host.specs.Host.{cpu_own, host_read}

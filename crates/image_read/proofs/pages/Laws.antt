@@ -1,11 +1,13 @@
 -- Entries read in groups of eight.
 use mathlib.Core.Path.{◌≡◌, refl, sym, ap, ap₂, ◌∙◌}
 use mathlib.Core.List.{List, [], ◌∷◌, ◌++◌}
-use Prim.Native.Nat.{ℕ, zero, suc, ◌+◌, ◌*◌, ◌^◌, ◌/◌, ◌%◌, ◌≤◌, ◌<◌}
+use Prim.Native.Nat.{ℕ, zero, suc, ◌+◌, ◌-◌, ◌*◌, ◌^◌, ◌/◌, ◌%◌, ◌≤◌, ◌<◌}
 use native.Mathlib.Nat.{div-one, add-zero}
 use native.Mathlib.Omega.{arith}
-use lib.ListN.{length, take, drop, set, get_or, length-append, length-set}
-use lib.Seq.{take_all, take_at, length-take-le, sets-eq}
+use borrow.Rule.Slice.PartMut.{put_mid}
+use lib.ListN.{length, take, drop, length-append, length-drop}
+use lib.Seq.{take_all, length-take-le}
+use Rattle.std.proofs.lemmas.Slice.{take-put_mid}
 use Rattle.bits.specs.Fields.{total, pack, unpack, Fit, after, times}
 use Rattle.bits.specs.Words.{word_of}
 use Rattle.bits.specs.Cursor.{Read, bits_read}
@@ -13,13 +15,12 @@ use Rattle.bits.specs.declared.cursor.Cursor.{Cursor}
 use Rattle.bits.proofs.Fields.{pack-unpack, fit-unpack, fit_append, length-unpack, after-append, after-word, total-times, times-add}
 use Rattle.bits.proofs.cursor.Laws.{read-append, read_none}
 use Rattle.memory.specs.declared.page.Page.{Page}
-use Rattle.memory.specs.Page.{page_of, unmapped}
+use Rattle.memory.specs.Page.{page_of}
 use Rattle.image_write.specs.Image.{page_widths, byte_at}
 use Rattle.image_read.specs.declared.pages.Eight.{Eight}
 use Rattle.image_read.specs.Reading.{is_set, pages_of}
 use Rattle.image_read.specs.Sections.{fields_at}
 use Rattle.image_read.specs.Pages.{eight_fields}
-use Rattle.bits.proofs.Lists.{listed, listed-is}
 use Rattle.image_read.proofs.Sections.{section-is, word-to, byte-behind}
 
 pub pages-append : (i : ℕ) (vs us : List ℕ) → Fit (times i page_widths) vs → pages_of (vs ++ us) ≡ pages_of vs ++ pages_of us
@@ -63,27 +64,16 @@ eight-pages w ha hb =
     ap₂ (λ (s t : List Page). s ++ t) (four-pages w.first ha) (four-pages w.last hb)
     ∙ sym (pages-append 4 us vs (fit-unpack (times 4 page_widths) w.first))
 
--- a table with eight entries stored from i on
+-- a table with its k-th eight stored
 abbrev pub with_eight : List Page → ℕ → List Page → List Page
-with_eight pages i g =
-    let o = unmapped in
-    let h = set (set (set (set pages i (get_or g 0 o)) (i + 1) (get_or g 1 o)) (i + 2) (get_or g 2 o)) (i + 3) (get_or g 3 o) in
-    set (set (set (set h (i + 4) (get_or g 4 o)) (i + 5) (get_or g 5 o)) (i + 6) (get_or g 6 o)) (i + 7) (get_or g 7 o)
+with_eight pages k g = put_mid (k * 8) (k * 8 + 8 - k * 8) pages g
 
-take-with-eight : (xs g : List Page) (i : ℕ) → i + 8 ≤ length xs → length g ≡ 8 → take (i + 8) (with_eight xs i g) ≡ take i xs ++ g
-take-with-eight xs g i h l =
-    let vs = listed 8 (λ j. get_or g j unmapped) in
-    let n : length (take i xs ++ vs) ≡ i + 8 = length-append (take i xs) vs ∙ omega (arith, length-take-le i xs (omega arith)) in
-    let e1 : i + 1 ≡ suc i = omega arith in
-    let e2 : i + 2 ≡ suc (suc i) = omega arith in
-    let e3 : i + 3 ≡ suc (suc (suc i)) = omega arith in
-    let e4 : i + 4 ≡ suc (suc (suc (suc i))) = omega arith in
-    let e5 : i + 5 ≡ suc (suc (suc (suc (suc i)))) = omega arith in
-    let e6 : i + 6 ≡ suc (suc (suc (suc (suc (suc i))))) = omega arith in
-    let e7 : i + 7 ≡ suc (suc (suc (suc (suc (suc (suc i)))))) = omega arith in
-    rw (e1, e2, e3, e4, e5, e6, e7)
-    (ap (take (i + 8)) (sets-eq vs xs i (omega arith)) ∙ take_at (take i xs ++ vs) (drop (i + 8) xs) (i + 8) n
-    ∙ ap (λ (t : List Page). take i xs ++ t) (listed-is unmapped 8 g l))
+length-with-eight : (xs g : List Page) (k : ℕ) → k * 8 + 8 ≤ length xs → length g ≡ 8 → length (with_eight xs k g) ≡ length xs
+length-with-eight xs g k h l = simp (length-append, length-drop) (omega (arith, length-take-le (k * 8) xs (omega arith)))
+
+take-with-eight : (xs g : List Page) (k : ℕ) → k * 8 + 8 ≤ length xs → length g ≡ 8
+    → take (k * 8 + 8) (with_eight xs k g) ≡ take (k * 8) xs ++ g
+take-with-eight xs g k h l = take-put_mid (k * 8) (k * 8 + 8 - k * 8) xs g (k * 8 + 8) (omega arith) (omega arith)
 
 -- ---- eight entries in 11 bytes
 
@@ -157,7 +147,7 @@ module _ {n a : ℕ} {img : List ℕ} {xs : List Page} where
   pub pages-more : {k : ℕ} (w : Eight) (g : List Page) → PagesRead n a img xs k → k < n
       → Read img (byte_at (a + k * 11)) (byte_at (a + k * 11 + 11)) (44 ∷ 44 ∷ []) (w.first ∷ w.last ∷ [])
       → (g ≡ pages_of (eight_fields w)) × (length g ≡ 8)
-      → PagesRead n a img (with_eight xs (k * 8) g) (k + 1)
+      → PagesRead n a img (with_eight xs k g) (k + 1)
   pages-more {k} w g p h f e =
       let us = eight_fields w in
       let e11 : (k + 1) * 11 ≡ k * 11 + 11 = omega arith in
@@ -165,7 +155,7 @@ module _ {n a : ℕ} {img : List ℕ} {xs : List Page} where
       let ea : a + (k * 11 + 11) ≡ a + k * 11 + 11 = omega arith in
       record {
         within = omega arith;
-        long = simp length-set p.long;
+        long = length-with-eight xs g k (omega (arith, p.long)) e.1 ∙ p.long;
         vs = p.vs ++ us;
         read =
             rw (e11, e8, ea, times-add (k * 8) 8 page_widths)
@@ -174,7 +164,7 @@ module _ {n a : ℕ} {img : List ℕ} {xs : List Page} where
             (eight-fields img (byte_at (a + k * 11)) (byte_at (a + k * 11 + 11)) w f));
         same =
             rw e8
-            (take-with-eight xs g (k * 8) (omega (arith, p.long)) e.1 ∙ ap₂ (λ (s t : List Page). s ++ t) p.same e.0
+            (take-with-eight xs g k (omega (arith, p.long)) e.1 ∙ ap₂ (λ (s t : List Page). s ++ t) p.same e.0
             ∙ sym (pages-append (k * 8) p.vs us p.read.fit));
       }
 

@@ -1,15 +1,14 @@
 -- The page tables are written eight entries after eight: each eight start at a byte of their own, 11 bytes on.
 use mathlib.Core.Path.{◌≡◌, refl, sym, subst}
 use mathlib.Core.List.{List, [], ◌∷◌}
-use Prim.Native.Nat.{ℕ, ◌+◌, ◌*◌, ◌≤◌, ◌<◌}
+use Prim.Native.Nat.{ℕ, ◌+◌, ◌-◌, ◌*◌, ◌≤◌, ◌<◌}
 use native.Mathlib.Nat.{add-zero}
 use native.Mathlib.Omega.{arith}
-use lib.ListN.{length, take, drop, get_or, length-drop}
-use lib.Seq.{take_all, get_or-take, get_or-drop}
+use lib.ListN.{length, take, drop, length-drop}
+use lib.Seq.{take_all, get_or-take, get_or-drop, length-take-le}
 use Rattle.bits.specs.Fields.{total, pack, times, each}
 use Rattle.bits.specs.Cursor.{Wrote}
 use Rattle.bits.specs.declared.cursor.Cursor.{Cursor}
-use Rattle.bits.proofs.Lists.{listed-take}
 use Rattle.bits.proofs.cursor.Laws.{wrote-append, wrote_none, wrote-more}
 use Rattle.memory.specs.declared.page.Page.{Page}
 use Rattle.memory.specs.declared.Memory.{Memory}
@@ -46,41 +45,22 @@ wrote-eight a b c at v w m n p q r s t u x y d e f g =
     wrote-to a c at (at + 11) w _ _ (omega arith)
     (wrote-append a b c (byte_at at) v w ws first ws last refl (wrote-fields ws first d f) (wrote-fields ws last e g))
 
--- the eight entries from i on
+-- the eight entries from the k-th eight on
 abbrev pub eight_at : List Page → ℕ → List Page
-eight_at pages i =
-    get_or pages i unmapped
-    ∷ get_or pages (i + 1) unmapped
-    ∷ get_or pages (i + 2) unmapped
-    ∷ get_or pages (i + 3) unmapped
-    ∷ get_or pages (i + 4) unmapped
-    ∷ get_or pages (i + 5) unmapped
-    ∷ get_or pages (i + 6) unmapped
-    ∷ get_or pages (i + 7) unmapped
-    ∷ []
+eight_at pages k = take (k * 8 + 8 - k * 8) (drop (k * 8) pages)
 
-module _ (pages : List Page) (i : ℕ) (inside : i + 8 ≤ length pages) where
-  eight-at : eight_at pages i ≡ take 8 (drop i pages)
-  eight-at =
-      let d = drop i pages in
-      let o = unmapped in
-      rw (
-        get_or-drop i pages 0 o,
-        get_or-drop i pages 1 o,
-        get_or-drop i pages 2 o,
-        get_or-drop i pages 3 o,
-        get_or-drop i pages 4 o,
-        get_or-drop i pages 5 o,
-        get_or-drop i pages 6 o,
-        get_or-drop i pages 7 o,
-        add-zero i,
-      ) at (listed-take o 8 d (rw length-drop (omega arith)))
+module _ (pages : List Page) (k : ℕ) (inside : k * 8 + 8 ≤ length pages) where
+  eight-at : eight_at pages k ≡ take 8 (drop (k * 8) pages)
+  eight-at = rw (let e : k * 8 + 8 - k * 8 ≡ 8 = omega arith in e)
+
+  pub length-eight : length (eight_at pages k) ≡ 8
+  length-eight = rw eight-at (length-take-le 8 (drop (k * 8) pages) (rw length-drop (omega arith)))
 
   -- eight entries of a table fit where the table's do
-  eight-fit : (n : ℕ) → i + 8 ≤ n → PagesFit n pages → PagesFit 8 (eight_at pages i)
+  eight-fit : (n : ℕ) → k * 8 + 8 ≤ n → PagesFit n pages → PagesFit 8 (eight_at pages k)
   eight-fit n l f =
       subst (PagesFit 8) (sym eight-at)
-      (λ j h. rw (get_or-take 8 (drop i pages) j unmapped h, get_or-drop i pages j unmapped) (f (i + j) (omega arith)))
+      (λ j h. rw (get_or-take 8 (drop (k * 8) pages) j unmapped h, get_or-drop (k * 8) pages j unmapped) (f (k * 8 + j) (omega arith)))
 
 -- ---- a table of n eights, its first k eights written from byte at on
 
@@ -98,11 +78,11 @@ module _ {n at : ℕ} {img₀ : List ℕ} {pages : List Page} where
 
   -- the next eight fit where the table's entries do
   pub next-fit : {img : List ℕ} {k : ℕ} → PagesWrote n at img₀ pages img k → k < n → PagesFit (n * 8) pages
-      → PagesFit 8 (eight_at pages (k * 8))
-  next-fit {k = k} p h f = eight-fit pages (k * 8) (omega (arith, p.long)) (n * 8) (omega arith) f
+      → PagesFit 8 (eight_at pages k)
+  next-fit {k = k} p h f = eight-fit pages k (omega (arith, p.long)) (n * 8) (omega arith) f
 
   pub pages-more : {img : List ℕ} {k : ℕ} (b : List ℕ) → PagesWrote n at img₀ pages img k → k < n
-      → Wrote img b (byte_at (at + k * 11)) (byte_at (at + k * 11 + 11)) (times 8 page_widths) (each page_fields (eight_at pages (k * 8)))
+      → Wrote img b (byte_at (at + k * 11)) (byte_at (at + k * 11 + 11)) (times 8 page_widths) (each page_fields (eight_at pages k))
       → PagesWrote n at img₀ pages b (k + 1)
   pages-more {img = img} {k = k} b p h q =
       let e : (k + 1) * 8 ≡ k * 8 + 8 = omega arith in
@@ -114,7 +94,7 @@ module _ {n at : ℕ} {img₀ : List ℕ} {pages : List Page} where
         wrote =
             rw (e, f)
             (wrote-more page_fields page_widths (λ x. refl) img₀ img b (byte_at at) (byte_at (at + k * 11)) (byte_at (at + k * 11 + 11)) pages
-            (k * 8) 8 (omega (arith, p.long)) p.wrote (rw (eight-at pages (k * 8) (omega (arith, p.long))) at q));
+            (k * 8) 8 (omega (arith, p.long)) p.wrote (rw (eight-at pages k (omega (arith, p.long))) at q));
       }
 
   pub pages-all : {img : List ℕ} {k : ℕ} → PagesWrote n at img₀ pages img k → n ≤ k

@@ -2,11 +2,11 @@
 use mathlib.Core.Path.{◌≡◌, refl, sym, ap, ◌∙◌}
 use mathlib.Core.Bool.{Bool, true, false, not, ◌&&◌, ◌||◌}
 use mathlib.Core.List.{List, [], ◌∷◌, ◌++◌}
-use Prim.Native.Nat.{ℕ, zero, suc, ◌*◌}
+use Prim.Native.Nat.{ℕ, zero, suc, ◌*◌, ◌≤◌}
 use native.Mathlib.Omega.{arith}
 use borrow.Author.Tests.{ne_eqb, eqb-true}
 use lib.Dec.{eqb}
-use lib.ListN.{length, set, drop, length-drop}
+use lib.ListN.{length, set, drop, length-drop, length-append}
 use Rattle.bits.specs.Fields.{bit, total, pack}
 use Rattle.bits.proofs.words.Laws.{length-bytes}
 use Rattle.board_state.specs.declared.State.{State}
@@ -50,6 +50,21 @@ room-none option n e = go (room option n e)
     go (short l f) = short-room n l
     go (long l) = long-room false n l
 
+-- bytes that hold an image are as many as the shorter one has, or more
+pub room-first : (option : Bool) (n : ℕ) → room_for option n ≡ true → image_bytes ≤ n
+room-first option n e = go (room option n e)
+  where
+    go : Room option n → image_bytes ≤ n
+    go (short l f) = omega arith
+    go (long l) = omega arith
+
+pub room-short : (option : Bool) (n : ℕ) → room_for option n ≡ true → (n ≡ options_image_bytes → ⊥) → n ≡ image_bytes
+room-short option n e ne = go (room option n e)
+  where
+    go : Room option n → n ≡ image_bytes
+    go (short l f) = l
+    go (long l) = absurd (ne l)
+
 pub no_room : (option : Bool) (n : ℕ) → (n ≡ image_bytes → ⊥) → (n ≡ options_image_bytes → ⊥) → room_for option n ≡ false
 unfolding room_for
 no_room option n p q = rw (ne_eqb n options_image_bytes q, ne_eqb n image_bytes p)
@@ -81,6 +96,12 @@ set_last [] (y ∷ []) (suc n) v e f = absurd (omega arith)
 set_last [] (y ∷ z ∷ ys) n v e f = absurd (omega arith)
 set_last (x ∷ xs) ys zero v e f = absurd (omega arith)
 set_last (x ∷ xs) ys (suc n) v e f = ap (λ (l : List ℕ). x ∷ l) (set_last xs ys n v (omega arith) f)
+
+-- the image over the first bytes leaves as many
+pub length-put : (s : State) (img new : List ℕ) → image_bytes ≤ length img → new ≡ image_of s
+    → length (new ++ drop image_bytes img) ≡ length img
+length-put s img new h e =
+    omega (arith, length-append new (drop image_bytes img), length-drop image_bytes img, ap length e ∙ length-image s)
 
 pub put-long : (s : State) (img : List ℕ) (v : ℕ) → length img ≡ options_image_bytes → v ≡ bit s.f800_protects * 128
     → set (image_of s ++ drop image_bytes img) image_bytes v ≡ image_at (length img) s

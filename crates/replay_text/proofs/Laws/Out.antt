@@ -1,32 +1,43 @@
 -- Bytes that are put one after the other. Assumes nothing.
-use Prim.Native.Nat.{ℕ, ◌+◌, ◌/◌, ◌%◌, ◌≤◌, ◌<◌}
-use mathlib.Core.Path.{◌≡◌, refl, sym, ap, ◌∙◌}
-use mathlib.Core.List.{List, [], ◌∷◌, ◌++◌}
-use borrow.Author.Tests.{lt-ltb}
-use lib.ListN.{length, get_or, drop, set, drop_of_length-le}
-use Rattle.replay_text.specs.Out.{Put, put_to, put_one, put_all}
-use Rattle.replay_text.proofs.Laws.Lists.{drop-next}
+use Rattle.std.proofs.Common.{ℕ, suc, ◌+◌, ◌-◌, ◌/◌, ◌%◌, ◌≡◌, ◌<◌, Bool, true, false, cond, ltb, refl, ◌∙◌, arith}
+use Rattle.std.proofs.Common.{List, [], ◌∷◌, ◌++◌, length, take, get_or, append_assoc, length-append}
+use Rattle.std.proofs.lemmas.List.{take_more}
+use Rattle.std.proofs.lemmas.Grind.{common_steps, flat_map-append}
+use Rattle.std.proofs.lemmas.Bool.{ltb-true, ltb-false}
+use Rattle.replay_text.specs.Hex.{hex_of, glyph_of}
+use Rattle.replay_text.specs.Out.{Put, put_one, put_all}
 
--- a byte that fits
-pub put_in : (bytes : List ℕ) (i b : ℕ) → i < length bytes → put_one (put_to bytes i) b ≡ put_to (set bytes i b) (i + 1)
-unfolding put_one
-put_in bytes i b h = rw (lt-ltb i (length bytes) h)
+-- one byte more, and the bytes that there is room for behind it
+one-more : (bytes s : List ℕ) (b room : ℕ) (t : Bool) → ltb (length bytes) room ≡ t
+    → cond t (bytes ++ b ∷ []) bytes ++ take (room - length (cond t (bytes ++ b ∷ []) bytes)) s
+    ≡ bytes ++ take (room - length bytes) (b ∷ s)
+one-more bytes s b room true e =
+    let n : room - length bytes ≡ suc (room - length (bytes ++ b ∷ [])) =
+    omega (arith, ltb-true (length bytes) room e, length-append bytes (b ∷ [])) in
+    rw n (append_assoc bytes (b ∷ []) (take (room - length (bytes ++ b ∷ [])) s))
+one-more bytes s b room false e =
+    let n : room - length bytes ≡ 0 = omega (arith, ltb-false (length bytes) room e) in
+    rw n
 
-pub put_next : (p : Put) (l : List ℕ) (i : ℕ) → i < length l → put_all p (drop i l) ≡ put_all (put_one p (get_or l i 0)) (drop (i + 1) l)
-unfolding put_all
-put_next p l i h = rw (drop-next l i h)
+-- as many as there is room for
+pub put_take : (p : Put) (s : List ℕ)
+    → put_all p s ≡ record { bytes = p.bytes ++ take (p.room - length p.bytes) s; room = p.room }
+unfolding put_all put_one
+put_take p [] =
+    let e : p.bytes ≡ p.bytes ++ take (p.room - length p.bytes) [] = grind (arith, common_steps) in
+    λ i. record { bytes = e i; room = p.room }
+put_take p (b ∷ s) =
+    put_take (put_one p b) s
+    ∙ λ i. record { bytes = one-more p.bytes s b p.room (ltb (length p.bytes) p.room) refl i; room = p.room }
 
-pub put-end : (p : Put) (l : List ℕ) (i : ℕ) → length l ≤ i → put_all p (drop i l) ≡ p
-unfolding put_all
-put-end p l i h = rw (drop_of_length-le l h)
-
-put-append : (p : Put) (s t : List ℕ) → put_all p (s ++ t) ≡ put_all (put_all p s) t
+pub put-append : (p : Put) (s t : List ℕ) → put_all p (s ++ t) ≡ put_all (put_all p s) t
 unfolding put_all
 put-append p [] t = refl
 put-append p (b ∷ s) t = put-append (put_one p b) s t
 
--- the digits of the high half of a number, then those of the low one, for halves below w
-pub put-halves : {q r : Put} (digits : ℕ → List ℕ) (w : ℕ) (p : Put) (n : ℕ)
-    → q ≡ put_all p (digits (n / w)) → r ≡ put_all q (digits (n % w)) → r ≡ put_all p (digits (n / w) ++ digits (n % w))
-put-halves digits w p n e f =
-    f ∙ ap (λ (x : Put). put_all x (digits (n % w))) e ∙ sym (put-append p (digits (n / w)) (digits (n % w)))
+-- two digits more
+pub put-more : (first p : Put) (s : List ℕ) (i : ℕ) → i < length s → p ≡ put_all first (hex_of (take i s))
+    → put_one (put_one p (glyph_of (get_or s i 0 / 16))) (glyph_of (get_or s i 0 % 16)) ≡ put_all first (hex_of (take (i + 1) s))
+unfolding put_all
+put-more first p s i h e =
+    rw (take_more s i 0 h, flat_map-append, put-append first (hex_of (take i s)) (hex_of (get_or s i 0 ∷ []))) (rw e)

@@ -1,43 +1,31 @@
--- The definitions on words at the byte at an index. Assumes nothing.
-use Prim.Native.Nat.{ℕ, zero, suc, ◌+◌, ◌-◌, ◌≤◌, ◌<◌}
-use mathlib.Core.Bool.{cond}
-use mathlib.Core.Path.{◌≡◌, refl}
-use mathlib.Core.List.{List, [], ◌∷◌}
-use native.Mathlib.Omega.{arith}
-use lib.Dec.{eqb}
-use lib.ListN.{length, get_or, drop, drop_of_length-le}
-use Rattle.replay_text.specs.Words.{is_space, spaces_in, behind, word_length}
-use Rattle.replay_text.proofs.Laws.Lists.{drop-next}
-
-pub spaces-next : (l : List ℕ) (i : ℕ) → i < length l → spaces_in (drop i l) ≡ is_space (get_or l i 0) + spaces_in (drop (i + 1) l)
-unfolding spaces_in
-spaces-next l i h = rw (drop-next l i h)
-
-pub spaces-end : (l : List ℕ) (i : ℕ) → length l ≤ i → spaces_in (drop i l) ≡ 0
-unfolding spaces_in
-spaces-end l i h = rw (drop_of_length-le l h)
+-- What stands behind spaces. Assumes nothing.
+use Rattle.std.proofs.Common.{ℕ, suc, ◌+◌, ◌≡◌, Bool, true, false, cond, not, List, [], ◌∷◌, drop, refl, sym, ap, arith}
+use Rattle.replay_text.specs.Words.{is_space, behind, word_length}
 
 pub behind-none : (s : List ℕ) → behind 0 s ≡ s
 unfolding behind
 behind-none [] = refl
 behind-none (b ∷ s) = refl
 
-pub behind-end : (n : ℕ) (l : List ℕ) (i : ℕ) → length l ≤ i → behind n (drop i l) ≡ drop i l
+-- one space after the other
+pub behind-one : (m : ℕ) (s : List ℕ) → behind (suc m) s ≡ behind m (behind 1 s)
 unfolding behind
-behind-end zero l i h = behind-none (drop i l)
-behind-end (suc n) l i h = rw (drop_of_length-le l h)
+behind-one m [] = refl
+behind-one m (b ∷ s) = go (is_space b) (behind-one m s)
+  where
+    go : (t : Bool) → behind (suc m) s ≡ behind m (behind 1 s) → behind (cond t m (suc m)) s ≡ behind m (behind (cond t 0 1) s)
+    go true e = ap (behind m) (sym (behind-none s))
+    go false e = e
 
-pub behind-next : (n : ℕ) (l : List ℕ) (i : ℕ) → 0 < n → i < length l
-    → behind n (drop i l) ≡ behind (n - is_space (get_or l i 0)) (drop (i + 1) l)
+-- the first space stands behind the first word
+pub behind-word : (s : List ℕ) → behind 1 s ≡ drop (word_length s + 1) s
 unfolding behind
-behind-next zero l i p h = absurd (omega arith)
-behind-next (suc n) l i p h = rw (drop-next l i h)
-
-pub word_next : (l : List ℕ) (i : ℕ) → i < length l
-    → word_length (drop i l) ≡ cond (eqb (get_or l i 0) 32) 0 (suc (word_length (drop (i + 1) l)))
-unfolding word_length
-word_next l i h = rw (drop-next l i h)
-
-pub word_end : (l : List ℕ) (i : ℕ) → length l ≤ i → word_length (drop i l) ≡ 0
-unfolding word_length
-word_end l i h = rw (drop_of_length-le l h)
+behind-word [] = refl
+behind-word (b ∷ s) = go (is_space b) (behind-word s)
+  where
+    go : (t : Bool) → behind 1 s ≡ drop (word_length s + 1) s
+        → behind (cond t 0 1) s ≡ drop (cond (not t) (1 + word_length s) 0 + 1) (b ∷ s)
+    go true e = behind-none s
+    go false e =
+        let n : 1 + word_length s + 1 ≡ suc (word_length s + 1) = omega arith in
+        rw n e

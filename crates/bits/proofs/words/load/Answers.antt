@@ -1,35 +1,42 @@
 -- `bits::words::load` meets its contract: byte after byte.
-use mathlib.Core.Path.{◌≡◌}
-use Prim.Native.Nat.{◌+◌, ◌<◌}
-use native.Mathlib.Omega.{arith}
-use lib.ListN.{get_or}
-use Rattle.bits.proofs.words.Laws.{load-zero, load-suc, load-small, load_fits}
+use Rattle.std.proofs.Common.{ℕ, List, [], ◌+◌, ◌-◌, ◌<◌, ◌≡◌, length, take, drop, arith}
+use Rattle.std.proofs.lemmas.List.{take_all}
+use Rattle.bits.proofs.words.Laws.{load-zero, load-suc, load-small, load_fits, part_lt, length-part}
 use Rattle.bits.proofs.words.load.Goals as goal
 
-pub loop-j-init : goal.loop-j-init
-loop-j-init c = (omega arith, load-zero c.args.acc c.args.img.now c.args.at, omega arith)
+pub loop-b-init : goal.loop-b-init
+loop-b-init c = (load-zero c.args.acc [], omega arith)
 
 pub overflow_mul-a : goal.overflow_mul-a
-overflow_mul-a c = omega (arith, load_fits c.args.acc c.loop-j.j c.loop-j.a (omega arith) (omega arith) c.loop-j.invariant.2)
+overflow_mul-a c =
+    let e = length-part c.args.img.now c.args.at c.args.k (omega arith) in
+    omega (arith, load_fits c.args.acc c.loop-b.b-index c.loop-b.a (omega arith) (omega arith) c.loop-b.invariant.1)
 
-pub overflow_cast-a : goal.overflow_cast-a
-overflow_cast-a c = omega (arith, c.type_inv.img (c.args.at + c.loop-j.j))
+pub overflow_add-a : goal.overflow_add-a
+overflow_add-a c =
+    let e = length-part c.args.img.now c.args.at c.args.k (omega arith) in
+    omega (
+      arith,
+      part_lt c.args.img.now c.args.at c.args.k c.loop-b.b-index (λ i. (c.type_inv.img i).fits) (omega arith),
+      load_fits c.args.acc c.loop-b.b-index c.loop-b.a (omega arith) (omega arith) c.loop-b.invariant.1,
+    )
 
-pub overflow_add-a-in-loop-j : goal.overflow_add-a-in-loop-j
-overflow_add-a-in-loop-j c = omega (
-  arith,
-  c.type_inv.img (c.args.at + c.loop-j.j),
-  load_fits c.args.acc c.loop-j.j c.loop-j.a (omega arith) (omega arith) c.loop-j.invariant.2,
-)
-
-pub loop-j-preserved : goal.loop-j-preserved
-loop-j-preserved c = let b : get_or c.args.img.now (c.args.at + c.loop-j.j) 0 < 256 = omega
-    (arith, c.type_inv.img (c.args.at + c.loop-j.j)) in (
-      omega arith,
-      load-suc c.args.acc c.loop-j.a c.args.img.now c.args.at c.loop-j.j (omega arith) c.loop-j.invariant.1,
-      load-small c.args.acc c.loop-j.a _ c.loop-j.j c.loop-j.invariant.2 b,
+pub loop-b-preserved : goal.loop-b-preserved
+loop-b-preserved c =
+    let e = length-part c.args.img.now c.args.at c.args.k (omega arith) in
+    let b : c.from.result < 256 = rw c.from.ensures
+    (part_lt c.args.img.now c.args.at c.args.k c.loop-b.b-index (λ i. (c.type_inv.img i).fits) (omega arith)) in (
+      rw c.from.ensures (load-suc c.args.acc c.loop-b.a _ c.loop-b.b-index c.loop-b-test.true c.loop-b.invariant.0),
+      load-small c.args.acc c.loop-b.a _ c.loop-b.b-index c.loop-b.invariant.1 b,
     )
 
 pub returns : goal.returns
-returns c = let e : c.loop-j.j ≡ c.args.k = omega arith in
-    record { value = rw e at c.loop-j.invariant.1; upper_bound = rw e at c.loop-j.invariant.2 }
+returns c =
+    let xs : List ℕ = take (c.args.at + c.args.k - c.args.at) (drop c.args.at c.args.img.now) in
+    let e : length xs ≡ c.args.k = length-part c.args.img.now c.args.at c.args.k (omega arith) in
+    let i : c.loop-b.b-index ≡ c.args.k = omega arith in
+    let n : c.args.at + c.args.k - c.args.at ≡ c.args.k = omega arith in
+    record {
+      value = rw n at (rw (i, take_all c.args.k xs (omega arith)) at c.loop-b.invariant.0);
+      upper_bound = rw i at c.loop-b.invariant.1;
+    }

@@ -2,7 +2,7 @@
 use Prim.Native.Nat.{ℕ}
 use mathlib.Core.Path.{◌≡◌, ◌∙◌}
 use mathlib.Core.List.{List, []}
-use Rattle.image_read.specs.declared.reading.ReadImage.{ReadImage}
+use Rattle.image_read.specs.Reading.{ReadImage}
 use Rattle.image_read.specs.Reading.{read_image}
 use Rattle.call_blocks.specs.Blocks.{with_directory}
 use Rattle.host_blocks.specs.HostBlocks.{stored_drops}

@@ -1,46 +1,24 @@
 -- `levels_of` meets its contract: numbers below 4096 are floats exactly.
-use mathlib.Core.Path.{◌≡◌}
-use mathlib.Core.List.{List}
-use Prim.Native.Nat.{ℕ, ◌^◌, ◌<◌}
-use lib.ListN.{length, get_or}
-use lib.Dec.{T, le→leb}
-use lib.Ieee.{binary32, in_float}
-use lib.IntN.{pos}
-use Rattle.bits.proofs.Lists.{listed-is}
-use native.Mathlib.Omega.{arith}
-use borrow.Author.Rules.{rules}
+use Rattle.std.proofs.Common.{◌≡◌, List, [], ◌∷◌, ◌++◌, take, length, get_or, ap, sym, ◌∙◌, arith, rules}
+use native.Mathlib.Numerals.{add-one}
+use lib.Ieee.{Float}
+use lib.ListN.{length-set}
+use lib.Seq.{take-suc, take-suc-set, take_all}
+use mathlib.Core.List.{map-append}
+use Rattle.sound.specs.Levels.{whole}
 use Rattle.image_read.proofs.reading.levels_of.Goals as goal
 
--- whole numbers up to 2 ^ 24 are floats
-exact : (ns : List ℕ) → ((i : ℕ) → get_or ns i 0 < 4096) → (i : ℕ) → T (in_float binary32 (pos (get_or ns i 0)))
-unfolding in_float
-exact ns h i = le→leb (get_or ns i 0) (2 ^ 24) (omega (arith, h i))
+pub loop-i-preserved : goal.loop-i-preserved
+loop-i-preserved c =
+    let n = get_or c.args.ns c.loop-i.i 0 in
+    let b : length c.args.ns ≡ 8 = search rules in (
+      rw length-set c.loop-i.invariant.0,
+      rw (add-one c.loop-i.i, take-suc-set c.loop-i.outs c.loop-i.i (whole n) (omega arith), take-suc c.args.ns c.loop-i.i 0 (omega arith))
+          (ap (λ (l : List Float). l ++ whole n ∷ []) c.loop-i.invariant.1 ∙ sym (map-append whole (take c.loop-i.i c.args.ns) (n ∷ []))),
+    )
 
 pub returns : goal.returns
 returns c =
-    let l : length c.args.ns ≡ 8 = search rules in
-    rw (← listed-is 0 8 c.args.ns l)
-
-pub int_to_float-result : goal.int_to_float-result
-int_to_float-result c = exact c.args.ns c.requires 0
-
-pub int_to_float-result-2 : goal.int_to_float-result-2
-int_to_float-result-2 c = exact c.args.ns c.requires 1
-
-pub int_to_float-result-3 : goal.int_to_float-result-3
-int_to_float-result-3 c = exact c.args.ns c.requires 2
-
-pub int_to_float-result-4 : goal.int_to_float-result-4
-int_to_float-result-4 c = exact c.args.ns c.requires 3
-
-pub int_to_float-result-5 : goal.int_to_float-result-5
-int_to_float-result-5 c = exact c.args.ns c.requires 4
-
-pub int_to_float-result-6 : goal.int_to_float-result-6
-int_to_float-result-6 c = exact c.args.ns c.requires 5
-
-pub int_to_float-result-7 : goal.int_to_float-result-7
-int_to_float-result-7 c = exact c.args.ns c.requires 6
-
-pub int_to_float-result-8 : goal.int_to_float-result-8
-int_to_float-result-8 c = exact c.args.ns c.requires 7
+    let b : length c.args.ns ≡ 8 = search rules in
+    let e : c.loop-i.i ≡ 8 = omega arith in
+    rw (e, take_all 8 c.loop-i.outs (omega arith), take_all 8 c.args.ns (omega arith)) at c.loop-i.invariant.1

@@ -10,11 +10,11 @@ use Rattle.image_read.proofs.Out.{from-bits-ok}
 use native.Mathlib.Omega.{arith}
 use Rattle.image_read.proofs.reading.read_sound.Goals as goal
 
-pub float_from_bits-out : goal.float_from_bits-out
-float_from_bits-out c = from-bits-ok c.args.bits c.requires.1
+pub float_from_bits-result : goal.float_from_bits-result
+float_from_bits-result c = from-bits-ok c.args.bits c.requires
 
 pub returns : goal.returns
 unfolding sound_at
 returns c =
     let e : c.load-port.result ≡ word_of (take (levels_at - port_at) (drop port_at c.args.img.now)) = omega (arith, c.load-port.ensures.value) in
-    rw (port-at c.args.img.now c.load-port.result e, c.get_ram-ram.ensures, c.get_levels-outs.ensures, c.get_phases-phases.ensures)
+    rw (port-at c.args.img.now c.load-port.result e, c.get_ram.ensures, c.get_levels.ensures, c.get_phases.ensures)

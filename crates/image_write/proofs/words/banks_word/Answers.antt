@@ -10,4 +10,4 @@ use Rattle.image_write.proofs.words.banks_word.Goals as goal
 pub returns : goal.returns
 unfolding total pack
 returns c =
-    let l : length c.args.banks ≡ 3 = search rules in rw (← listed-is 0 3 c.args.banks l) (omega arith)
+    let l : length c.args.banks.now ≡ 3 = search rules in rw (← listed-is 0 3 c.args.banks.now l) (omega arith)

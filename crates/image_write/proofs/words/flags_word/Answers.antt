@@ -1,35 +1,31 @@
 -- `flags_word` meets its contract: flag after flag.
-use Rattle.bits.specs.Fields.{pack, bit}
-use mathlib.Core.Path.{◌≡◌, refl, sym, ap, ◌∙◌}
-use Prim.Native.Nat.{ℕ, ◌+◌, ◌*◌}
-use lib.ListN.{get_or}
+use Rattle.std.proofs.Common.{ℕ, false, ◌+◌, ◌*◌, ◌≡◌, length, sym, ap, ◌∙◌, arith, rules, get_or}
 use lib.Seq.{take_all}
-use Rattle.image_write.proofs.Parts.{flags-more, doubled, below-12}
-use native.Mathlib.Omega.{arith}
-use borrow.Author.Rules.{rules}
+use Rattle.bits.specs.Fields.{pack, bit}
+use Rattle.image_write.proofs.Parts.{flags-more, doubled, below-12, bit-is, bit-small}
 use Rattle.image_write.proofs.words.flags_word.Goals as goal
 
-pub loop-i-init : goal.loop-i-init
+pub loop-flag-init : goal.loop-flag-init
 unfolding pack
-loop-i-init c = (omega arith, search rules, refl, omega arith)
+loop-flag-init c = (omega arith, omega arith)
 
 pub overflow_mul-word : goal.overflow_mul-word
-overflow_mul-word c = omega (arith, below-12 c.loop-i.word c.loop-i.i c.loop-i.invariant.3 (omega arith))
+overflow_mul-word c = omega (arith, below-12 c.loop-flag.word c.loop-flag.flag-index c.loop-flag.invariant.1 (omega arith))
 
 pub overflow_add-word : goal.overflow_add-word
-overflow_add-word c = omega (arith, below-12 c.loop-i.word c.loop-i.i c.loop-i.invariant.3 (omega arith))
+overflow_add-word c = omega (arith, bit-small, below-12 c.loop-flag.word c.loop-flag.flag-index c.loop-flag.invariant.1 (omega arith))
 
-pub loop-i-preserved : goal.loop-i-preserved
-loop-i-preserved c = (
-  omega arith,
-  c.loop-i.invariant.1,
-  ap (λ (x : ℕ). c.loop-i.word * 2 + x) c.bit_of.ensures.0
-      ∙ ap (λ (x : ℕ). x * 2 + bit (get_or c.args.flags c.loop-i.i _)) c.loop-i.invariant.2
-      ∙ sym (flags-more c.args.flags c.loop-i.i (omega arith)),
-  doubled c.loop-i.word c.bit_of.result c.loop-i.i c.loop-i.invariant.3 c.bit_of.ensures.1,
-)
+pub loop-flag-preserved : goal.loop-flag-preserved
+loop-flag-preserved c =
+    let b = c.from.ensures ∙ bit-is (get_or c.args.flags.now c.loop-flag.flag-index false) in (
+      ap (λ (x : ℕ). c.loop-flag.word * 2 + x) b
+          ∙ ap (λ (x : ℕ). x * 2 + bit (get_or c.args.flags.now c.loop-flag.flag-index false)) c.loop-flag.invariant.0
+          ∙ sym (flags-more c.args.flags.now c.loop-flag.flag-index (omega arith)),
+      doubled c.loop-flag.word c.from.result c.loop-flag.flag-index c.loop-flag.invariant.1 (rw c.from.ensures (bit-small _)),
+    )
 
 pub returns : goal.returns
 returns c =
-    let e : c.loop-i.i ≡ 12 = omega arith in
-    (rw (e, take_all 12 c.args.flags (omega arith)) at c.loop-i.invariant.2, rw e at c.loop-i.invariant.3)
+    let l : length c.args.flags.now ≡ 12 = search rules in
+    let e : c.loop-flag.flag-index ≡ 12 = omega arith in
+    (rw (e, take_all 12 c.args.flags.now (omega arith)) at c.loop-flag.invariant.0, rw e at c.loop-flag.invariant.1)

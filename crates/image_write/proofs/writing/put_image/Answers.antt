@@ -1,55 +1,46 @@
 -- `put_image` meets its contract at either length.
-use Prim.Native.Nat.{ℕ}
-use mathlib.Core.Path.{◌≡◌, sym, ap, ◌∙◌}
-use mathlib.Core.Bool.{Bool, true}
-use mathlib.Core.List.{List, ◌++◌}
-use native.Mathlib.Omega.{arith}
-use lib.ListN.{length, drop, set, length-append, length-drop}
+use Rattle.std.proofs.Common.{ℕ, true, ◌*◌, ◌≡◌, List, ◌++◌, length, drop, set, sym, ap, ◌∙◌, arith}
+use Rattle.std.proofs.lemmas.List.{drop_all}
 use lib.Seq.{length-take-le}
+use mathlib.Core.List.{append-nil}
 use Rattle.image_write.specs.Image.{image_bytes, image_of}
-use Rattle.image_write.specs.Options.{options_image_bytes, option_set, room_for, Room, short, long}
-use Rattle.image_write.proofs.writing.Laws.{room, length-image, image-short, put-long}
+use Rattle.board_state.specs.declared.State.{State}
+use Rattle.image_write.specs.Options.{option_set, room_for}
+use Rattle.image_write.proofs.Parts.{bit-is}
+use Rattle.image_write.proofs.writing.Laws.{room-first, room-short, length-put, image-short, put-long}
 use Rattle.image_write.proofs.writing.put_image.Goals as goal
 
--- where the bytes are not those of the shorter image, they are those of the longer
-longer : (set : Bool) (n : ℕ) → room_for set n ≡ true → (n ≡ image_bytes → ⊥) → n ≡ options_image_bytes
-longer set n e ne = by (room set n e)
-  where
-    by : Room set n → n ≡ options_image_bytes
-    by (short l f) = absurd (ne l)
-    by (long l) = l
-
-pub returns-then-img-eq-IMAGE_BYTES : goal.returns-then-img-eq-IMAGE_BYTES
-returns-then-img-eq-IMAGE_BYTES c = c.put_state.ensures ∙ sym (image-short c.args.s (length c.args.img.now) c.if-img-eq-IMAGE_BYTES.true)
-
 pub slice_bounds-put_state-end : goal.slice_bounds-put_state-end
-slice_bounds-put_state-end c =
-    omega (arith, longer (option_set c.args.s) (length c.args.img.now) c.requires.0 c.if-img-eq-IMAGE_BYTES.false)
+slice_bounds-put_state-end c = room-first (option_set c.args.s) (length c.args.img.now) c.requires.0
 
 pub slice_bounds-put_state-end-2 : goal.slice_bounds-put_state-end-2
 slice_bounds-put_state-end-2 c =
-    let l = longer (option_set c.args.s) (length c.args.img.now) c.requires.0 c.if-img-eq-IMAGE_BYTES.false in
-    sym (length-take-le image_bytes c.args.img.now (omega (arith, l)))
+    sym (length-take-le image_bytes c.args.img.now (room-first (option_set c.args.s) (length c.args.img.now) c.requires.0))
 
-pub put_state-requires-2 : goal.put_state-requires-2
-put_state-requires-2 c =
-    let l = longer (option_set c.args.s) (length c.args.img.now) c.requires.0 c.if-img-eq-IMAGE_BYTES.false in
-    (length-take-le image_bytes c.args.img.now (omega (arith, l)), c.requires.1)
+pub put_state-requires : goal.put_state-requires
+put_state-requires c = (
+  length-take-le image_bytes c.args.img.now (room-first (option_set c.args.s) (length c.args.img.now) c.requires.0),
+  c.requires.1,
+)
+
+-- the image over the first bytes leaves as many
+as_long : (s : State) (img new : List ℕ) (k : ℕ) → room_for (option_set s) (length img) ≡ true → new ≡ image_of s
+    → length (new ++ drop image_bytes img) ≡ k → length img ≡ k
+as_long s img new k r e l = sym (length-put s img new (room-first (option_set s) (length img) r) e) ∙ l
 
 -- the first bytes are the image, and behind them is the last one
-pub bounds-img-307 : goal.bounds-img-307
-bounds-img-307 c =
-    rw (
-      c.put_state-2.ensures,
-      length-append (image_of c.args.s) (drop image_bytes c.args.img.now),
-      length-image c.args.s,
-      length-drop,
-      longer (option_set c.args.s) (length c.args.img.now) c.requires.0 c.if-img-eq-IMAGE_BYTES.false,
-    )
-    (omega arith)
+pub returns-then-img-eq-OPTIONS_IMAGE_BYTES : goal.returns-then-img-eq-OPTIONS_IMAGE_BYTES
+returns-then-img-eq-OPTIONS_IMAGE_BYTES c =
+    ap (λ (l : List ℕ). set (l ++ drop image_bytes c.args.img.now) image_bytes (c.from.result * 128)) c.put_state.ensures
+    ∙ put-long c.args.s c.args.img.now (c.from.result * 128)
+    (as_long c.args.s c.args.img.now _ _ c.requires.0 c.put_state.ensures c.if-img-eq-OPTIONS_IMAGE_BYTES.true)
+    (omega (arith, c.from.ensures, bit-is c.args.s.f800_protects))
 
-pub returns : goal.returns
-returns c =
-    ap (λ (l : List ℕ). set (l ++ drop image_bytes c.args.img.now) image_bytes c.options_byte.result) c.put_state-2.ensures
-    ∙ put-long c.args.s c.args.img.now c.options_byte.result
-    (longer (option_set c.args.s) (length c.args.img.now) c.requires.0 c.if-img-eq-IMAGE_BYTES.false) c.options_byte.ensures
+pub returns-else-img-eq-OPTIONS_IMAGE_BYTES : goal.returns-else-img-eq-OPTIONS_IMAGE_BYTES
+returns-else-img-eq-OPTIONS_IMAGE_BYTES c =
+    let same = length-put c.args.s c.args.img.now c.put_state.new.img
+    (room-first (option_set c.args.s) (length c.args.img.now) c.requires.0) c.put_state.ensures in
+    let l : length c.args.img.now ≡ image_bytes =
+    room-short (option_set c.args.s) (length c.args.img.now) c.requires.0 (λ h. c.if-img-eq-OPTIONS_IMAGE_BYTES.false (same ∙ h)) in
+    rw (drop_all image_bytes c.args.img.now (omega arith), append-nil c.put_state.new.img)
+    (c.put_state.ensures ∙ sym (image-short c.args.s (length c.args.img.now) l))

@@ -4,4 +4,4 @@ use Rattle.memory.proofs.Laws.Layout.{layout-good}
 use Rattle.replay_player.proofs.calls.arena_len.Goals as goal
 
 pub arena_len-requires : goal.arena_len-requires
-arena_len-requires c = rw c.new-layout.ensures (layout-good c.args.sizes (sym c.within_limits.ensures ∙ c.if-within_limits.true))
+arena_len-requires c = rw c.new.ensures (layout-good c.args.sizes (sym c.within_limits.ensures ∙ c.if-within_limits.true))

@@ -1,30 +1,25 @@
 -- The sums so far, and those of the bytes that are left, are the sums of all.
-use mathlib.Core.Path.{refl, sym, ◌∙◌}
-use borrow.Author.Rules.{rules}
-use native.Mathlib.Omega.{arith}
-use Rattle.replay_text.proofs.Laws.Adler.{sums_next, sums-end}
+use Rattle.std.proofs.Common.{ℕ, ◌+◌, ◌%◌, ◌*◌, ◌≡◌, ◌<◌, ◌≤◌, List, length, get_or, drop, sym, ◌∙◌, drop_of_length-le}
+use Rattle.std.proofs.lemmas.List.{drop_more}
+use Rattle.replay_text.specs.Adler.{sums_from}
 use Rattle.replay_text.proofs.adler.adler32.Goals as goal
 
-pub loop-i-init : goal.loop-i-init
-loop-i-init c = (omega arith, omega arith, omega arith, refl)
+sums-next : (a b : ℕ) (l : List ℕ) (i : ℕ) → i < length l
+    → sums_from a b (drop i l) ≡ sums_from ((a + get_or l i 0) % 65521) ((b + (a + get_or l i 0) % 65521) % 65521) (drop (i + 1) l)
+unfolding sums_from
+sums-next a b l i h = rw (drop_more l i 0 h)
 
-pub overflow_cast-bytes : goal.overflow_cast-bytes
-overflow_cast-bytes c = omega (arith, c.type_inv.bytes c.loop-i.i)
+sums-end : (a b : ℕ) (l : List ℕ) (i : ℕ) → length l ≤ i → sums_from a b (drop i l) ≡ b * 65536 + a
+unfolding sums_from
+sums-end a b l i h = rw (drop_of_length-le l h)
 
-pub overflow_add-low : goal.overflow_add-low
-overflow_add-low c = omega (arith, c.type_inv.bytes c.loop-i.i)
-
-pub reduced-low-requires : goal.reduced-low-requires
-reduced-low-requires c = omega (arith, c.type_inv.bytes c.loop-i.i)
-
-pub loop-i-preserved : goal.loop-i-preserved
-loop-i-preserved c = (
-  search rules,
-  search rules,
-  search rules,
-  rw (c.reduced-high.ensures.0, c.reduced-low.ensures.0)
-      (sym (sums_next c.loop-i.low c.loop-i.high c.args.bytes.now c.loop-i.i (omega arith)) ∙ c.loop-i.invariant.3),
+pub loop-b-preserved : goal.loop-b-preserved
+loop-b-preserved c = (
+  c.reduced-low.ensures.1,
+  c.reduced-high.ensures.1,
+  rw (c.reduced-high.ensures.0, c.reduced-low.ensures.0, c.from.ensures)
+      (sym (sums-next c.loop-b.low c.loop-b.high c.args.bytes.now c.loop-b.b-index c.loop-b-test.true) ∙ c.loop-b.invariant.2),
 )
 
 pub returns : goal.returns
-returns c = sym (sums-end c.loop-i.low c.loop-i.high c.args.bytes.now c.loop-i.i (omega arith)) ∙ c.loop-i.invariant.3
+returns c = sym (sums-end c.loop-b.low c.loop-b.high c.args.bytes.now c.loop-b.b-index c.loop-b-test.false) ∙ c.loop-b.invariant.2

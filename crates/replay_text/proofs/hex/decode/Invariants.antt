@@ -1,12 +1,7 @@
 -- The bytes put so far, and those of the pairs that are left, are the bytes of all (`Passed`).
-use Prim.Native.Nat.{◌-◌, ◌≤◌}
-use mathlib.Core.Path.{◌≡◌}
-use lib.ListN.{length}
+use Rattle.std.proofs.Common.{◌≡◌, length}
 use Rattle.replay_text.proofs.Laws.Hex.{Passed}
 use Rattle.replay_text.proofs.hex.decode.Given as goal
 
 abbrev pub invariant-loop-i : goal.invariant-loop-i
-invariant-loop-i l = (l.i ≤ l.n) × (length l.bytes ≡ length l.initial.bytes) × Passed l.digits l.initial.bytes l.i l.bytes
-
-abbrev pub decreases-loop-i : goal.decreases-loop-i
-decreases-loop-i l = l.n - l.i
+invariant-loop-i l = (length l.bytes ≡ length l.initial.bytes) × Passed l.digits l.initial.bytes l.i l.bytes

@@ -1,48 +1,34 @@
 -- The value so far, and the digits that are left, give the number of all.
-use Prim.Native.Nat.{ℕ, ◌+◌, ◌*◌, ◌<◌}
-use mathlib.Core.Bool.{cond}
-use mathlib.Core.Path.{◌≡◌, refl, sym, ◌∙◌}
-use lib.Dec.{ltb, leb}
-use mathlib.Core.List.{List}
-use lib.ListN.{length, get_or, drop}
-use borrow.Author.Rules.{rules}
-use native.Mathlib.Omega.{arith}
-use borrow.Author.Tests.{le-ltb, lt-ltb, le-leb, lt-leb}
-use Rattle.replay_text.specs.declared.number.Number.TheVariants.{Nothing}
-use Rattle.replay_text.specs.Number.{digits_after}
-use Rattle.replay_text.proofs.Laws.Number.{digits-next, digits-end, has_room, no_room}
+use Rattle.std.proofs.Common.{◌≡◌, sym, ◌∙◌, arith, length}
+use Rattle.std.proofs.lemmas.Grind.{common_steps}
+use Rattle.replay_text.proofs.Laws.Number.{digits-end, base-none, base-some, no-digit, no-number, a-number}
 use Rattle.replay_text.proofs.number.in_base.Goals as goal
-use Rattle.replay_text.specs.Hex.{digit_of}
 
-pub loop-i-init : goal.loop-i-init
-loop-i-init c = (omega arith, refl)
+pub returns-then-is_empty : goal.returns-then-is_empty
+returns-then-is_empty c =
+    let e : length c.args.digits.now ≡ 0 = grind (arith, common_steps) in sym (base-none c.args.base c.args.digits.now e)
 
--- what the digits give, by the one that was read
-step : (base value d : ℕ) (digits : List ℕ) (i : ℕ) → i < length digits → d ≡ digit_of (get_or digits i 0)
-    → digits_after base value (drop i digits) ≡ digits_after base 0 digits
-    → digits_after base 0 digits
-    ≡ cond (leb base d) Nothing
-    (cond (ltb (value * base + d) 18446744073709551616) (digits_after base (value * base + d) (drop (i + 1) digits)) Nothing)
-step base value d digits i h e p = sym p ∙ digits-next base value digits i h ∙ rw (← e)
+pub returns-in_err-digit : goal.returns-in_err-digit
+returns-in_err-digit c =
+    let stops = no-digit c.args.base c.loop-b.value c.args.digits.now c.loop-b.b-index c.loop-b-test.true
+    (sym c.digit.ensures.value ∙ c.in_err-digit.was) in
+    c.from_residual.ensures
+    ∙ sym (base-some c.args.base c.args.digits.now (λ e. grind (arith, common_steps)) ∙ sym c.loop-b.invariant ∙ stops)
 
-pub returns-then-base-d : goal.returns-then-base-d
-returns-then-base-d c = sym (step c.args.base c.loop-i.value c.digit-d.result c.args.digits.now c.loop-i.i (omega arith) c.digit-d.ensures.0 c.loop-i.invariant.1 ∙ rw (le-leb _ _ c.if-base-d.true))
+pub returns-in_err-value : goal.returns-in_err-value
+returns-in_err-value c =
+    let stops = no-number c.args.base c.loop-b.value c.args.digits.now c.loop-b.b-index c.loop-b-test.true
+    (sym c.digit.ensures.value ∙ c.in_ok-digit.was) (rw c.from.ensures at (sym c.one_more.ensures ∙ c.in_err-value.was)) in
+    c.from_residual-in_err-value.ensures
+    ∙ sym (base-some c.args.base c.args.digits.now (λ e. grind (arith, common_steps)) ∙ sym c.loop-b.invariant ∙ stops)
 
-pub returns-then-d-base : goal.returns-then-d-base
-returns-then-d-base c =
-    sym (step c.args.base c.loop-i.value c.digit-d.result c.args.digits.now c.loop-i.i (omega arith) c.digit-d.ensures.0 c.loop-i.invariant.1 ∙ rw (
-      lt-leb _ _ c.if-base-d.false,
-      le-ltb _ _ (no_room c.loop-i.value c.args.base c.digit-d.result (search rules) c.if-d-base.true),
-    ))
-
-pub loop-i-preserved : goal.loop-i-preserved
-loop-i-preserved c = (search rules, sym (step c.args.base c.loop-i.value c.digit-d.result c.args.digits.now c.loop-i.i (omega arith) c.digit-d.ensures.0 c.loop-i.invariant.1 ∙ rw (lt-leb _ _ c.if-base-d.false, lt-ltb _ _ (has_room c.loop-i.value c.args.base c.digit-d.result (search rules) (search rules) c.if-d-base.false))))
+pub loop-b-preserved : goal.loop-b-preserved
+loop-b-preserved c =
+    let next = a-number c.args.base c.loop-b.value c.args.digits.now c.loop-b.b-index c.loop-b-test.true
+    (sym c.digit.ensures.value ∙ c.in_ok-digit.was) (rw c.from.ensures at (sym c.one_more.ensures ∙ c.in_ok-value.was)) in
+    sym next ∙ c.loop-b.invariant
 
 pub returns : goal.returns
-returns c = sym (digits-end c.args.base c.loop-i.value c.args.digits.now c.loop-i.i (omega arith)) ∙ c.loop-i.invariant.1
-
-pub overflow_mul-value : goal.overflow_mul-value
-overflow_mul-value c = record { fits = omega (arith, has_room c.loop-i.value c.args.base c.digit-d.result (search rules) (search rules) c.if-d-base.false) }
-
-pub overflow_add-value : goal.overflow_add-value
-overflow_add-value c = record { fits = has_room c.loop-i.value c.args.base c.digit-d.result (search rules) (search rules) c.if-d-base.false }
+returns c =
+    sym (base-some c.args.base c.args.digits.now (λ e. grind (arith, common_steps)) ∙ sym c.loop-b.invariant
+    ∙ digits-end c.args.base c.loop-b.value c.args.digits.now c.loop-b.b-index c.loop-b-test.false)
