@@ -10,7 +10,7 @@ impl Regs {
     pub fn clock(mut self) -> Regs
         ensures { result ≡ clock_counter self }
     {
-        if self.irq_counter >= 0x8000 && self.irq_counter != 0xFFFF {
+        if (0x8000..0xFFFF).contains(&self.irq_counter) {
             self.irq_counter += 1;
             if self.irq_counter == 0xFFFF {
                 self.irq_pending = true;

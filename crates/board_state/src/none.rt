@@ -1,4 +1,4 @@
-// The state of a refused load or image: one that no call accepts.
+// The state of a refused load or image: one that no call accepts. Each field is named, since a derived default says less.
 ghost use Rattle.std.specs.Prelude.{◌≡◌};
 ghost use Rattle.board_state.specs.None.{no_state};
 

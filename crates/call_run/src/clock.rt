@@ -21,7 +21,7 @@ pub fn clock(mut chip: Namco163) -> Namco163
 #[derive(Clone, Copy)]
 pub struct CounterRan {
     pub regs: Regs,
-    // C5: which clock, the first being 1, was a rise; 0 where none was.
+    // C5: which clock, the first being 1, was a rise; 0 where none was: a number and no option, as the C interface has it.
     pub rise: u32,
 }
 

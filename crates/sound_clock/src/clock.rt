@@ -1,4 +1,4 @@
-// The sound clock, as the Rust steps it.
+// The sound clock, as the Rust steps it. A host may lend any state, so `InRange` is asked here and is no invariant of `Audio`.
 
 ghost use Rattle.std.specs.Prelude.{◌<◌, ◌≡◌};
 ghost use Rattle.sound.specs.Range.{InRange};
