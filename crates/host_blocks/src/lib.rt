@@ -48,9 +48,10 @@ fn stored_byte(m: Memory, offset: u64) -> u64
     ensures { result ≡ shown_by m.prg_pages (arena_byte m offset) }
 {
     if offset < m.layout.arena_len() as u64 {
-        return shown_mask(m.prg_pages, offset as usize);
+        shown_mask(m.prg_pages, offset as usize)
+    } else {
+        0
     }
-    0
 }
 
 // After a store of the host's own at a byte of the arena: the blocks over the pages that show its arena page go.

@@ -1,5 +1,5 @@
 -- Dropping keeps a directory fit, and a lookup afterwards finds exactly the blocks that do not go. Assumes nothing.
-use Rattle.std.proofs.Common.{◌≡◌, ℕ, suc, Bool, true, false, cond, not, ◌&&◌, ◌||◌, ltb, List, [], ◌∷◌, ◌++◌, length, get_or, sym, refl, ap, ◌∙◌, add-one, arith, eq-eqb, ne_eqb}
+use Rattle.std.proofs.Common.{◌≡◌, ℕ, suc, Bool, true, false, cond, not, ◌&&◌, ◌||◌, ltb, List, [], ◌∷◌, ◌++◌, length, get_or, sym, refl, ap, ◌∙◌, add-one, eq-eqb, ne_eqb}
 use native.Mathlib.Decide.{ℕ_discrete}
 use Rattle.std.proofs.Math.Bool.{or-false}
 use Rattle.std.proofs.lemmas.Bool.{and_right}
@@ -57,7 +57,7 @@ dropped-none t (w ∷ d) e = go (gone t w) (dropped-none t d) e
   where
     go : (g : Bool) → (any (gone t) d ≡ false → dropped t d ≡ d) → (g || any (gone t) d) ≡ false
         → cond g (dropped t d ++ (0 ∷ [])) (w ∷ dropped t d) ≡ w ∷ d
-    go true ih e = let z : ◌≡◌ {A = ℕ} 0 1 = cc in absurd (omega arith)
+    go true ih e = cc
     go false ih e = ap (w ∷◌) (ih e)
 
 -- and so where no page is touched
@@ -65,7 +65,7 @@ pub dropped-untouched : (t : ℕ) (d : List ℕ) → sound d ≡ true → t ≡ 
 dropped-untouched t d s z =
     dropped-none t d (any_none (gone t) d (λ i h e.
     let n : gone t (get_or d i 0) ≡ false = rw z (gone-none (get_or d i 0) (sound-at d s i)) in
-    let y : ◌≡◌ {A = ℕ} 0 1 = cc in omega arith))
+    cc))
 
 -- ---- the directory stays fit
 
@@ -76,7 +76,7 @@ any-dropped a t (w ∷ d) e = go (gone t w) (holds a w) refl (any-dropped a t d)
   where
     go : (g b : Bool) → holds a w ≡ b → (any (holds a) d ≡ false → any (holds a) (dropped t d) ≡ false)
         → (b || any (holds a) d) ≡ false → any (holds a) (cond g (dropped t d ++ (0 ∷ [])) (w ∷ dropped t d)) ≡ false
-    go g true q ih e = let z : ◌≡◌ {A = ℕ} 0 1 = cc in absurd (omega arith)
+    go g true q ih e = cc
     go true false q ih e = any-more a (dropped t d) ∙ ih e
     go false false q ih e = rw q (ih e)
 
@@ -102,7 +102,7 @@ word_none a [] e = refl
 word_none a (w ∷ d) e = go (holds a w) (word_none a d) e
   where
     go : (b : Bool) → (any (holds a) d ≡ false → word_at a d ≡ 0) → (b || any (holds a) d) ≡ false → cond b w (word_at a d) ≡ 0
-    go true ih e = let z : ◌≡◌ {A = ℕ} 0 1 = cc in absurd (omega arith)
+    go true ih e = cc
     go false ih e = ih e
 
 pub word-start : (a : ℕ) (d : List ℕ) → (word_at a d ≡ 0 → ⊥) → start_of (word_at a d) ≡ a

@@ -121,7 +121,7 @@ put-ordered w s (x ∷ d) a b n r h e =
         apart : start_of w ≡ start_of x → ⊥
         apart t =
             let u : holds (start_of w) x ≡ true = rw t (holds_of x m) in
-            let v : ◌≡◌ {A = ℕ} 0 1 = cc in omega arith
+            cc
 
         go : Dec (w ≤ x) → ordered s (min w x ∷ put (max w x) d) ≡ true
         go (yes l) =
@@ -153,7 +153,7 @@ replace-ordered a v s (w ∷ d) e f n h o = by (λ k. replace-ordered a v k d e 
         → InOrder s w d → (b : Bool) → holds a w ≡ b → (b || any (holds a) d) ≡ true
         → ordered s (set (w ∷ d) (cond b 0 (suc (first (holds a) d))) v) ≡ true
     by ih (ends z p) true q h = absurd (holds-not-free a w q z)
-    by ih (ends z p) false q h = let y = free-none a d p in let x : ◌≡◌ {A = ℕ} 0 1 = cc in absurd (omega arith)
+    by ih (ends z p) false q h = let y = free-none a d p in cc
     by ih (goes_on m r p) true q h =
         let t : start_of v ≡ start_of w = e ∙ sym (holds-start a w q) in
         order-in s v d

@@ -125,7 +125,7 @@ module _ (c x : ℕ) (d : List ℕ) (m : c ≡ 0 → ⊥) (n : x ≡ 0 → ⊥) 
   differ : start_of c ≡ start_of x → ⊥
   differ q =
       let t : holds (start_of c) x ≡ true = rw q (holds_of x n) in
-      let z : ◌≡◌ {A = ℕ} 0 1 = cc other in omega arith
+      cc other
 
 pub sound-put : (c : ℕ) (d : List ℕ) → (c ≡ 0 → ⊥) → sound (c ∷ d) ≡ true → sound (put c d) ≡ true
 unfolding put
@@ -156,7 +156,7 @@ sound-put c (x ∷ d) m s = by (λ y. sound-put y d) (ℕ_discrete x 0) (swap c 
 pub word-put : (a c : ℕ) (d : List ℕ) → (c ≡ 0 → ⊥) → sound (c ∷ d) ≡ true → any free d ≡ true
     → word_at a (put c d) ≡ cond (holds a c) c (word_at a d)
 unfolding any put word_at
-word-put a c [] m s r = let z : ◌≡◌ {A = ℕ} 0 1 = cc in absurd (omega arith)
+word-put a c [] m s r = cc
 word-put a c (x ∷ d) m s r = by (λ y. word-put a y d) (ℕ_discrete x 0) (swap c x)
   where
     after : sound (x ∷ d) ≡ true

@@ -44,7 +44,7 @@ pub record Place (d : List ℕ) (start i : ℕ) : Type 0 where
 
 first-at : (p : ℕ → Bool) (d : List ℕ) → any p d ≡ true → p (get_or d (first p d) 0) ≡ true
 unfolding any first
-first-at p [] e = let z : ◌≡◌ {A = ℕ} 0 1 = cc in absurd (omega arith)
+first-at p [] e = cc
 first-at p (w ∷ d) e = go (first-at p d) (p w) refl e
   where
     go : (any p d ≡ true → p (get_or d (first p d) 0) ≡ true) → (b : Bool) → p w ≡ b → (b || any p d) ≡ true
@@ -99,7 +99,7 @@ sound-set (w ∷ d) (suc i) v s h f only =
         let r : holds (start_of w) (get_or d j 0) ≡ true = rw (get_or-set_other d i j v 0 e) at q in
         let a : any (holds (start_of w)) d ≡ true = any_at (holds (start_of w)) d j k r in
         let b : any (holds (start_of w)) d ≡ false = (sound-cons w d s).alone n in
-        let z : ◌≡◌ {A = ℕ} 0 1 = cc in omega arith
+        cc
 
 word_set : (d : List ℕ) (i v : ℕ) → i < length d → (v ≡ 0 → ⊥)
     → ((j : ℕ) → j < length d → holds (start_of v) (get_or d j 0) ≡ true → j ≡ i)

@@ -33,7 +33,7 @@ put_image-requires c =
     let own = own-write a.d.now s a.image.now a.arena.now a.addr a.val _ written refl in
     let none = own-none a.d.now s a.image.now a.arena.now a.addr a.val _ written refl in (
       room-write s a.arena.now a.addr a.val _ (length a.image.now) own c.requires,
-      known-write s a.arena.now a.addr a.val _ own (search rules) (λ i. omega (arith, c.slice_known-2-1.given i)) none
+      known-write s a.arena.now a.addr a.val _ own (search rules) (λ i. grind arith) none
           (known-state a.s _ c.well_formed.1.0),
     )
 
