@@ -106,11 +106,10 @@ pub fn namco163_write_blocks(
         ≡ (host_write_blocks image.old arena.old directory.old addr val).lent }
     ensures directory_after { directory.new ≡ host_write_places image.old arena.old directory.old addr val }
 {
-    let read = read_image(image);
-    if read.refusal != 0 {
-        return read.refusal as u64;
-    }
-    let s = read.state;
+    let s = match read_image(image) {
+        Ok(s) => s,
+        Err(refusal) => return u64::from(refusal.number()),
+    };
     write_blocks_on(directory, s, arena, addr, val, image)
 }
 
@@ -119,10 +118,9 @@ pub fn namco163_stored(image: &[u8], directory: &mut [u64], offset: u64) -> u64
     ensures value { result ≡ host_stored image.now directory.old }
     ensures directory_after { directory.new ≡ host_stored_places image.now directory.old offset }
 {
-    let read = read_image(image);
-    if read.refusal != 0 {
-        return read.refusal as u64;
-    }
-    let s = read.state;
+    let s = match read_image(image) {
+        Ok(s) => s,
+        Err(refusal) => return u64::from(refusal.number()),
+    };
     stored_on(directory, s, offset)
 }

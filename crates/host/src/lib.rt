@@ -97,11 +97,10 @@ pub fn namco163_reset(image: &mut [u8], kind: u64) -> u64
     ensures value { result ≡ (host_reset image.old kind).word }
     ensures image_after { image.new ≡ (host_reset image.old kind).image }
 {
-    let read = read_image(image);
-    if read.refusal != 0 {
-        return read.refusal as u64;
-    }
-    let s = read.state;
+    let s = match read_image(image) {
+        Ok(s) => s,
+        Err(refusal) => return u64::from(refusal.number()),
+    };
     reset_on(s, kind, image)
 }
 
@@ -110,11 +109,10 @@ pub fn namco163_read(image: &mut [u8], arena: &[u8], addr: u16) -> u64
     ensures value { result ≡ (host_read image.old arena.now addr).word }
     ensures image_after { image.new ≡ (host_read image.old arena.now addr).image }
 {
-    let read = read_image(image);
-    if read.refusal != 0 {
-        return read.refusal as u64;
-    }
-    let s = read.state;
+    let s = match read_image(image) {
+        Ok(s) => s,
+        Err(refusal) => return u64::from(refusal.number()),
+    };
     read_on(s, arena, addr, image)
 }
 
@@ -124,11 +122,10 @@ pub fn namco163_write(image: &mut [u8], arena: &mut [u8], addr: u16, val: u8) ->
     ensures image_after { image.new ≡ (host_write image.old arena.old addr val).image }
     ensures arena_after { arena.new ≡ (host_write image.old arena.old addr val).lent }
 {
-    let read = read_image(image);
-    if read.refusal != 0 {
-        return read.refusal as u64;
-    }
-    let s = read.state;
+    let s = match read_image(image) {
+        Ok(s) => s,
+        Err(refusal) => return u64::from(refusal.number()),
+    };
     write_on(s, arena, addr, val, image)
 }
 
@@ -136,11 +133,10 @@ pub fn namco163_write(image: &mut [u8], arena: &mut [u8], addr: u16, val: u8) ->
 pub fn namco163_preview(image: &[u8], arena: &[u8], addr: u16, val: u8) -> u64
     ensures { result ≡ (host_write image.now arena.now addr val).word }
 {
-    let read = read_image(image);
-    if read.refusal != 0 {
-        return read.refusal as u64;
-    }
-    let s = read.state;
+    let s = match read_image(image) {
+        Ok(s) => s,
+        Err(refusal) => return u64::from(refusal.number()),
+    };
     preview_on(s, arena, addr, val)
 }
 
@@ -150,10 +146,9 @@ pub fn namco163_run(image: &mut [u8], samples: &mut [u8], clocks: u64) -> u64
     ensures image_after { image.new ≡ (host_run image.old samples.old clocks).image }
     ensures samples_after { samples.new ≡ (host_run image.old samples.old clocks).lent }
 {
-    let read = read_image(image);
-    if read.refusal != 0 {
-        return read.refusal as u64;
-    }
-    let s = read.state;
+    let s = match read_image(image) {
+        Ok(s) => s,
+        Err(refusal) => return u64::from(refusal.number()),
+    };
     run_on(s, clocks, samples, image)
 }

@@ -1,15 +1,14 @@
 -- `namco163_read` meets its contract: refused by the image, or on with its state.
 use Prim.Native.Nat.{ℕ}
-use mathlib.Core.Path.{◌≡◌}
+use mathlib.Core.Path.{◌≡◌, refl, ◌∙◌}
 use mathlib.Core.List.{List}
 use native.Mathlib.Omega.{arith}
 use lib.ListN.{length}
-use Rattle.image_read.specs.Reading.{ReadImage}
-use Rattle.image_read.specs.Reading.{read_image}
+use Rattle.image_read.specs.Reading.{ReadImage, read_image}
 use Rattle.host_state.specs.HostState.{read_gives}
 use Rattle.host.specs.Host.{cpu_own, host_read}
 use Rattle.host_state.proofs.Laws.{word_of, image-of, two-of}
-use Rattle.host.proofs.Laws.{OnImage, on-image}
+use Rattle.host.proofs.Laws.{number-some, OnImage, on-image}
 use Rattle.host.proofs.namco163_read.Goals as goal
 
 -- the call, by what the reading of the image answered
@@ -17,22 +16,22 @@ call : (image arena : List ℕ) (addr : ℕ) {r : ReadImage} → r ≡ read_imag
     → OnImage image arena (λ s. cpu_own s arena addr) (λ s. read_gives (length image) s arena addr) r
 call image arena addr is = on-image _ _ _ _ _ is
 
-pub returns-then-read-ne0 : goal.returns-then-read-ne0
+pub returns-in-Err : goal.returns-in-Err
 unfolding host_read
-returns-then-read-ne0 c =
-    let e = (call c.args.image.now c.args.arena.now c.args.addr c.read_image-read.ensures).refused c.if-read-ne0.true in
-    record { value = word_of e; image_after = image-of e }
+returns-in-Err c =
+    let e = (call c.args.image.now c.args.arena.now c.args.addr c.in-Err.ensures).refused (number-some c.in-Err.refusal) in
+    record { value = c.from.ensures ∙ c.number.ensures.0 ∙ word_of e; image_after = image-of e }
 
 -- the lent bytes are the image of the state that was read
 pub read_on-requires : goal.read_on-requires
 read_on-requires c =
-    let read = call c.args.image.now c.args.arena.now c.args.addr c.read_image-read.ensures in
-    let g = read.good c.if-read-ne0.false in
-    (g.0, read.image (λ i. omega (arith, c.slice_known-1.given i)) c.if-read-ne0.false, g.1)
+    let read = call c.args.image.now c.args.arena.now c.args.addr c.in-Ok.ensures in
+    let g = read.good refl in
+    (g.0, read.image (λ i. omega (arith, c.slice_known-1.given i)) refl, g.1)
 
 pub returns : goal.returns
 unfolding host_read
 returns c =
-    let goes_on = (call c.args.image.now c.args.arena.now c.args.addr c.read_image-read.ensures).goes_on c.if-read-ne0.false in
+    let goes_on = (call c.args.image.now c.args.arena.now c.args.addr c.in-Ok.ensures).goes_on refl in
     let both = two-of (c.read_on.ensures.value, c.read_on.ensures.image_after) goes_on in
     record { value = both.0; image_after = both.1 }

@@ -1,12 +1,12 @@
 -- `namco163_stored` meets its contract: refused by the image, or on with its state.
 use Prim.Native.Nat.{ℕ}
-use mathlib.Core.Path.{◌≡◌, ◌∙◌}
+use mathlib.Core.Path.{◌≡◌, ◌∙◌, refl}
 use mathlib.Core.List.{List, []}
-use Rattle.image_read.specs.Reading.{ReadImage}
-use Rattle.image_read.specs.Reading.{read_image}
+use Rattle.image_read.specs.Reading.{ReadImage, read_image}
 use Rattle.call_blocks.specs.Blocks.{with_directory}
 use Rattle.host_blocks.specs.HostBlocks.{stored_drops}
 use Rattle.host.specs.Blocks.{host_stored, host_stored_places}
+use Rattle.host.proofs.Laws.{number-some}
 use Rattle.host.proofs.WithDirectory.{Places, places}
 use Rattle.host.proofs.blocks.namco163_stored.Goals as goal
 
@@ -15,23 +15,23 @@ call : (image directory : List ℕ) (offset : ℕ) {r : ReadImage} → r ≡ rea
     → Places image directory (λ s. stored_drops directory s offset) r
 call image directory offset is = places _ _ _ _ is
 
-pub returns-then-read-ne0 : goal.returns-then-read-ne0
+pub returns-in-Err : goal.returns-in-Err
 unfolding host_stored host_stored_places
-returns-then-read-ne0 c =
-    let after = call c.args.image.now c.args.directory.now c.args.offset c.read_image-read.ensures in
+returns-in-Err c =
+    let after = call c.args.image.now c.args.directory.now c.args.offset c.in-Err.ensures in
     record {
-      value = after.refuses (with_directory c.args.directory.now []) c.if-read-ne0.true;
-      directory_after = after.kept c.if-read-ne0.true;
+      value = c.from.ensures ∙ c.number.ensures.0 ∙ after.refuses (with_directory c.args.directory.now []) (number-some c.in-Err.refusal);
+      directory_after = after.kept (number-some c.in-Err.refusal);
     }
 
 pub stored_on-requires : goal.stored_on-requires
-stored_on-requires c = (call c.args.image.now c.args.directory.now c.args.offset c.read_image-read.ensures).known c.if-read-ne0.false
+stored_on-requires c = (call c.args.image.now c.args.directory.now c.args.offset c.in-Ok.ensures).known refl
 
 pub returns : goal.returns
 unfolding host_stored host_stored_places
 returns c =
-    let after = call c.args.image.now c.args.directory.now c.args.offset c.read_image-read.ensures in
+    let after = call c.args.image.now c.args.directory.now c.args.offset c.in-Ok.ensures in
     record {
-      value = c.stored_on.ensures.value ∙ after.passes (with_directory c.args.directory.now []) c.if-read-ne0.false;
-      directory_after = c.stored_on.ensures.d_after ∙ after.made c.if-read-ne0.false;
+      value = c.stored_on.ensures.value ∙ after.passes (with_directory c.args.directory.now []) refl;
+      directory_after = c.stored_on.ensures.d_after ∙ after.made refl;
     }

@@ -1,16 +1,15 @@
 -- `namco163_write_blocks` meets its contract: refused by the image, or on with its state.
 use Prim.Native.Nat.{ℕ}
-use mathlib.Core.Path.{◌≡◌, ◌∙◌}
+use mathlib.Core.Path.{◌≡◌, ◌∙◌, refl}
 use mathlib.Core.List.{List}
 use lib.ListN.{length}
-use Rattle.image_read.specs.Reading.{ReadImage}
-use Rattle.image_read.specs.Reading.{read_image}
+use Rattle.image_read.specs.Reading.{ReadImage, read_image}
 use Rattle.call_blocks.specs.Blocks.{cpu_write_drops}
 use Rattle.host_state.specs.HostState.{write_gives}
 use Rattle.host_state.proofs.Laws.{word_of, image-of, lent_of}
 use Rattle.host.specs.Host.{cpu_own}
 use Rattle.host.specs.Blocks.{blocks_own, host_write_blocks, host_write_places}
-use Rattle.host.proofs.Laws.{OnImage, on-image}
+use Rattle.host.proofs.Laws.{number-some, OnImage, on-image}
 use Rattle.host.proofs.WithDirectory.{Places, places, either-given}
 use Rattle.host.proofs.blocks.namco163_write_blocks.Goals as goal
 
@@ -22,32 +21,32 @@ module _ (image arena directory : List ℕ) (addr val : ℕ) {r : ReadImage} (is
   drops : Places image directory (λ s. cpu_write_drops directory s arena addr val) r
   drops = places _ _ _ _ is
 
-pub returns-then-read-ne0 : goal.returns-then-read-ne0
+pub returns-in-Err : goal.returns-in-Err
 unfolding host_write_blocks host_write_places
-returns-then-read-ne0 c =
+returns-in-Err c =
     let a = c.args in
-    let e = (call a.image.now a.arena.now a.directory.now a.addr a.val c.read_image-read.ensures).refused c.if-read-ne0.true in
+    let e = (call a.image.now a.arena.now a.directory.now a.addr a.val c.in-Err.ensures).refused (number-some c.in-Err.refusal) in
     record {
-      value = word_of e;
+      value = c.from.ensures ∙ c.number.ensures.0 ∙ word_of e;
       image_after = image-of e;
       arena_after = lent_of e;
-      directory_after = (drops a.image.now a.arena.now a.directory.now a.addr a.val c.read_image-read.ensures).kept c.if-read-ne0.true;
+      directory_after = (drops a.image.now a.arena.now a.directory.now a.addr a.val c.in-Err.ensures).kept (number-some c.in-Err.refusal);
     }
 
 pub write_blocks_on-requires : goal.write_blocks_on-requires
 write_blocks_on-requires c =
     let a = c.args in
-    (call a.image.now a.arena.now a.directory.now a.addr a.val c.read_image-read.ensures).good c.if-read-ne0.false
+    (call a.image.now a.arena.now a.directory.now a.addr a.val c.in-Ok.ensures).good refl
 
 pub returns : goal.returns
 unfolding host_write_blocks host_write_places
 returns c =
     let a = c.args in
-    let s = c.read_image-read.result.state in
+    let s = c.in-Ok.s in
     let e = either-given s a.directory.now (cpu_own s a.arena.now a.addr) a.image.now a.arena.now
     (write_gives (length a.image.now) s a.arena.now a.addr a.val)
-    ∙ (call a.image.now a.arena.now a.directory.now a.addr a.val c.read_image-read.ensures).goes_on c.if-read-ne0.false in
-    let made = (drops a.image.now a.arena.now a.directory.now a.addr a.val c.read_image-read.ensures).made c.if-read-ne0.false in
+    ∙ (call a.image.now a.arena.now a.directory.now a.addr a.val c.in-Ok.ensures).goes_on refl in
+    let made = (drops a.image.now a.arena.now a.directory.now a.addr a.val c.in-Ok.ensures).made refl in
     record {
       value = c.write_blocks_on.ensures.value ∙ word_of e;
       image_after = c.write_blocks_on.ensures.image_after ∙ image-of e;
