@@ -10,6 +10,7 @@ use call_run::run::Ran;
 use image_write::sections::IMAGE_BYTES;
 use image_write::writing::write_image;
 use memory::layout::{Layout, MemoryLayout, Src};
+use refusals::refusal_of;
 use replay_answers::answers;
 use replay_calls::call::{Call, Cartridge, IMAGE_ROOM};
 
@@ -229,8 +230,8 @@ fn sync_battery(
 }
 
 fn image_into(s: State, img: &mut [u8], out: &mut [u8], at: usize) -> usize {
-    let refusal = write_image(s, img);
-    answers::image(out, at, refusal, img)
+    let written = write_image(s, img);
+    answers::image(out, at, refusal_of(&written), img)
 }
 
 fn image(s: State, out: &mut [u8], at: usize, len: usize) -> usize {
