@@ -20,8 +20,7 @@ use Rattle.call_load.specs.Cartridge.{Loaded}
 use Rattle.call_load.specs.Cartridge.{load_answer, load_arena}
 use Rattle.image_write.specs.Options.{room_for}
 use Rattle.image_write.specs.Writing.{room_check}
-use Rattle.image_read.specs.Reading.{ReadImage}
-use Rattle.image_read.specs.Reading.{read_image, state_in}
+use Rattle.image_read.specs.Reading.{ReadImage, read_image, state_in}
 use Rattle.image_read.proofs.RoundTrip.{read_known}
 use Rattle.thm_range.proofs.Refused.{load-refused}
 use Rattle.directory.specs.Fit.{fit}

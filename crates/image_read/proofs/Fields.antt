@@ -1,4 +1,4 @@
--- Laws of the fields' values: numbers to boards and mirrorings, and the fields of one word.
+-- The fields of one word.
 use mathlib.Core.Path.{◌≡◌, refl}
 use mathlib.Core.List.{List, [], ◌∷◌}
 use Prim.Native.Nat.{ℕ, zero, suc, ◌-◌, ◌/◌, ◌%◌, ◌^◌, ◌<◌}
@@ -13,23 +13,11 @@ use Rattle.image_read.specs.Sections.{fields_at}
 use Rattle.image_write.specs.Image.{image_bytes, part, sound_widths, memory_widths}
 use Rattle.image_write.specs.Sections.{port_at, levels_at, out_at, phases_at, layout_at}
 
-pub board-else : (n : ℕ) → (n ≡ 0 → ⊥) → (n ≡ 1 → ⊥) → (n ≡ 2 → ⊥) → Namco340 ≡ board_numbered n
-board-else zero a b c = absurd (a refl)
-board-else (suc zero) a b c = absurd (b refl)
-board-else (suc (suc zero)) a b c = absurd (c refl)
-board-else (suc (suc (suc n))) a b c = refl
-
-pub mirroring-else : (n : ℕ) → (n ≡ 0 → ⊥) → (n ≡ 1 → ⊥) → (n ≡ 2 → ⊥) → (n ≡ 3 → ⊥) → FourScreen ≡ mirroring_numbered n
-mirroring-else zero a b c d = absurd (a refl)
-mirroring-else (suc zero) a b c d = absurd (b refl)
-mirroring-else (suc (suc zero)) a b c d = absurd (c refl)
-mirroring-else (suc (suc (suc zero))) a b c d = absurd (d refl)
-mirroring-else (suc (suc (suc (suc n)))) a b c d = refl
-
 -- ---- the fields of one word
 
 module _ (img : List ℕ) (w : ℕ) where
-  pub port-at : w ≡ word_of (take (levels_at - port_at) (drop port_at img)) → fields_at (part sound_widths 1) img port_at (levels_at - port_at)
+  pub port-at : w ≡ word_of (take (levels_at - port_at) (drop port_at img))
+      → fields_at (part sound_widths 1) img port_at (levels_at - port_at)
       ≡ w / 512 % 128 ∷ w / 256 % 2 ∷ w / 128 % 2 ∷ w / 8 % 16 ∷ w % 8 ∷ []
   unfolding fields_at unpack total
   port-at e = rw (← e, div-one w)

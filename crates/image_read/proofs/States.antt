@@ -26,7 +26,8 @@ use Rattle.board_state.specs.State.{Known}
 use Rattle.limits.specs.Limits.{used_most, prg_entries, chr_entries}
 use Rattle.memory.specs.declared.layout.Layout.{Layout}
 use Rattle.memory.specs.Range.{UsedIn}
-use Rattle.image_write.specs.Image.{part, joined, part_widths, part_fields, level_num, page_widths, page_fields, layout_widths, widths, fields}
+use Rattle.image_write.specs.Image.{part, joined, part_widths, part_fields, level_num, page_widths, page_fields, layout_widths}
+use Rattle.image_write.specs.Image.{widths, fields}
 use Rattle.image_write.specs.Options.{option_fields}
 use Rattle.image_write.specs.Pages.{PagesFit}
 use Rattle.image_write.proofs.Levels.{level-small}

@@ -93,8 +93,8 @@ module _ {n at : ℕ} {img₀ : List ℕ} {pages : List Page} where
         same = omega (arith, p.same, q.len);
         wrote =
             rw (e, f)
-            (wrote-more page_fields page_widths (λ x. refl) img₀ img b (byte_at at) (byte_at (at + k * 11)) (byte_at (at + k * 11 + 11)) pages
-            (k * 8) 8 (omega (arith, p.long)) p.wrote (rw (eight-at pages k (omega (arith, p.long))) at q));
+            (wrote-more page_fields page_widths (λ x. refl) img₀ img b (byte_at at) (byte_at (at + k * 11)) (byte_at (at + k * 11 + 11))
+            pages (k * 8) 8 (omega (arith, p.long)) p.wrote (rw (eight-at pages k (omega (arith, p.long))) at q));
       }
 
   pub pages-all : {img : List ℕ} {k : ℕ} → PagesWrote n at img₀ pages img k → n ≤ k

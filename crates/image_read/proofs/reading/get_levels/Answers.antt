@@ -17,4 +17,5 @@ levels_of-requires c = fit-below 8 12 c.get_run.new.xs c.get_run.ensures.fit
 pub returns : goal.returns
 unfolding total
 returns c = c.levels_of.ensures ∙ ap (map whole)
-    (sym (section-is c.args.img.now levels_at (out_at - levels_at) (omega arith) _ (replicate 8 12) _ refl (rw c.at_byte.ensures at c.get_run.ensures)))
+    (sym (section-is c.args.img.now levels_at (out_at - levels_at) (omega arith) _ (replicate 8 12) _ refl
+    (rw c.at_byte.ensures at c.get_run.ensures)))

@@ -10,4 +10,5 @@ use Rattle.image_read.proofs.reading.get_phases.Goals as goal
 
 pub returns : goal.returns
 unfolding total
-returns c = sym (section-is c.args.img.now phases_at (prg_pages_at - phases_at) (omega arith) _ (replicate 8 24) _ refl (rw c.at_byte.ensures at c.get_run.ensures))
+returns c = sym (section-is c.args.img.now phases_at (prg_pages_at - phases_at) (omega arith) _ (replicate 8 24) _ refl
+    (rw c.at_byte.ensures at c.get_run.ensures))

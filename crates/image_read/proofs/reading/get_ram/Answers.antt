@@ -10,4 +10,5 @@ use Rattle.image_read.proofs.reading.get_ram.Goals as goal
 
 pub returns : goal.returns
 unfolding total
-returns c = sym (section-is c.args.img.now ram_at (port_at - ram_at) (omega arith) _ (replicate 128 8) _ refl (rw c.at_byte.ensures at c.get_bytes.ensures))
+returns c = sym (section-is c.args.img.now ram_at (port_at - ram_at) (omega arith) _ (replicate 128 8) _ refl
+    (rw c.at_byte.ensures at c.get_bytes.ensures))

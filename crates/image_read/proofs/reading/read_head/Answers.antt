@@ -45,13 +45,15 @@ get-chr_first-requires c =
 pub get-chr_last-requires : goal.get-chr_last-requires
 unfolding total
 get-chr_last-requires c =
-    let a = after 70 c.get-chr_first.ensures (after 58 c.get-flags.ensures (after 53 c.get-detection.ensures (after 0 (rw c.at_byte-c.ensures at c.get-regs.ensures) refl))) in
+    let a = after 70 c.get-chr_first.ensures
+    (after 58 c.get-flags.ensures (after 53 c.get-detection.ensures (after 0 (rw c.at_byte-c.ensures at c.get-regs.ensures) refl))) in
     record { behind = c.get-chr_first.ensures.behind; width_bound = (omega arith, omega (arith, a, c.told-img)) }
 
 pub get-prg-requires : goal.get-prg-requires
 unfolding total
 get-prg-requires c =
-    let f = after 70 c.get-chr_first.ensures (after 58 c.get-flags.ensures (after 53 c.get-detection.ensures (after 0 (rw c.at_byte-c.ensures at c.get-regs.ensures) refl))) in
+    let f = after 70 c.get-chr_first.ensures
+    (after 58 c.get-flags.ensures (after 53 c.get-detection.ensures (after 0 (rw c.at_byte-c.ensures at c.get-regs.ensures) refl))) in
     let a = after 118 c.get-chr_last.ensures f in
     record { behind = c.get-chr_last.ensures.behind; width_bound = (omega arith, omega (arith, a, c.told-img)) }
 

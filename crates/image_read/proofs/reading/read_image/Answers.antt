@@ -12,7 +12,8 @@ use Rattle.image_read.proofs.reading.read_image.Goals as goal
 -- the shorter image is its body, with no byte behind it
 short-is : (img : List ℕ) → length img ≡ image_bytes → read_image img ≡ read_body (take image_bytes img) 0
 short-is img l =
-    read_is img (short-room (length img) l) ∙ ap (read_body (take image_bytes img)) (get_or-eq_default img 0 {n = image_bytes} (omega (arith, l)))
+    read_is img (short-room (length img) l)
+    ∙ ap (read_body (take image_bytes img)) (get_or-eq_default img 0 {n = image_bytes} (omega (arith, l)))
 
 pub returns-in_default : goal.returns-in_default
 returns-in_default c =

@@ -15,5 +15,6 @@ use Rattle.image_read.proofs.reading.read_memory.Goals as goal
 pub returns : goal.returns
 unfolding memory_at
 returns c =
-    let e : c.load-w.result ≡ word_of (take (image_bytes - layout_at) (drop layout_at c.args.img.now)) = omega (arith, c.load-w.ensures.value) in
+    let e : c.load-w.result ≡ word_of (take (image_bytes - layout_at) (drop layout_at c.args.img.now)) =
+    omega (arith, c.load-w.ensures.value) in
     rw (layout-at c.args.img.now c.load-w.result e, mul_comm used_most (c.load-w.result % 2), c.get_pages.ensures, c.get_pages-2.ensures)

@@ -16,5 +16,6 @@ float_from_bits-result c = from-bits-ok c.args.bits c.requires
 pub returns : goal.returns
 unfolding sound_at
 returns c =
-    let e : c.load-port.result ≡ word_of (take (levels_at - port_at) (drop port_at c.args.img.now)) = omega (arith, c.load-port.ensures.value) in
+    let e : c.load-port.result ≡ word_of (take (levels_at - port_at) (drop port_at c.args.img.now)) =
+    omega (arith, c.load-port.ensures.value) in
     rw (port-at c.args.img.now c.load-port.result e, c.get_ram.ensures, c.get_levels.ensures, c.get_phases.ensures)

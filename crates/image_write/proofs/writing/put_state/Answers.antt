@@ -25,7 +25,8 @@ returns-in-Some c =
     (wrote-parts _ _ _ _ _ _ sound_widths (sound_fields n.audio) memory_widths (memory_fields c.args.s.now.memory) sounds
     c.put_sound.ensures c.put_memory.ensures) in
     let none : drop image_bytes c.args.img.now ≡ [] = drop_all image_bytes c.args.img.now (omega arith) in
-    let whole : c.put_memory.new.img ++ drop image_bytes c.args.img.now ≡ c.put_memory.new.img = rw none (append-nil c.put_memory.new.img) in
+    let whole : c.put_memory.new.img ++ drop image_bytes c.args.img.now ≡ c.put_memory.new.img =
+    rw none (append-nil c.put_memory.new.img) in
     let bytes : (i : ℕ) → get_or c.put_memory.new.img i 0 < 2 ^ 8 = λ i. rw (← whole) (c.type_inv.img i).fits in
     let l : length c.put_memory.new.img ≡ image_bytes = c.put_memory.ensures.len ∙ c.put_sound.array_long in
     whole ∙ (rw l at (finish _ c.put_memory.new.img _ widths (fields c.args.s.now) all (rw l total-widths) bytes))

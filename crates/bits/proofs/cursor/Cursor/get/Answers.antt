@@ -22,7 +22,8 @@ byte N n held l e = lt_of_lt_of_le (held-lt N n held e) (pow_mono {i = n} {j = 8
 pub load-acc-requires : goal.load-acc-requires
 load-acc-requires c = (
   omega arith,
-  byte (word_of (take c.args.self.now.at c.args.img.now)) c.args.self.now.n c.args.self.now.acc c.requires.behind.few c.requires.behind.last,
+  byte (word_of (take c.args.self.now.at c.args.img.now)) c.args.self.now.n c.args.self.now.acc
+      c.requires.behind.few c.requires.behind.last,
   omega arith,
 )
 
@@ -32,7 +33,8 @@ returns c =
     let k = (c.args.width + 7 - c.args.self.now.n) / 8 in
     let m = c.args.self.now.n + k * 8 - c.args.width in
     let e : m + c.args.width ≡ c.args.self.now.n + k * 8 = omega arith in
-    let all = get-bits c.args.img.now c.args.self.now.at c.args.self.now.n c.args.self.now.acc c.args.width k m c.load-acc.result e (omega arith)
+    let all = get-bits c.args.img.now c.args.self.now.at c.args.self.now.n c.args.self.now.acc c.args.width k m c.load-acc.result
+    e (omega arith)
     c.requires.behind.last c.load-acc.ensures.value in
     let under : c.load-acc.result % 2 ^ m < 2 ^ m = mod-lt c.load-acc.result (pow_pos m) in
     record {

@@ -29,13 +29,15 @@ returns c =
     let n = c.args.self.now.n + c.args.width in
     let acc : ℕ = (c.args.self.now.acc * 2 ^ c.args.width) % 2 ^ 64 + c.args.v in
     let e : acc ≡ c.args.self.now.acc * 2 ^ c.args.width + c.args.v =
-    ap (λ (x : ℕ). x + c.args.v) (acc-exact c.args.self.now.acc c.args.self.now.n c.args.width c.requires.held.few (omega arith) c.requires.held.small) in
+    ap (λ (x : ℕ). x + c.args.v)
+    (acc-exact c.args.self.now.acc c.args.self.now.n c.args.width c.requires.held.few (omega arith) c.requires.held.small) in
     record {
       held = record { few = omega arith; small = rw c.low.ensures (mod-lt acc (pow_pos (n % 8))) };
       pos = omega arith;
       bits =
           rw c.low.ensures
-          (put-bits c.args.img.now c.store.new.img c.args.self.now.at c.args.self.now.n c.args.self.now.acc c.args.width c.args.v (n / 8) (n % 8) acc
+          (put-bits c.args.img.now c.store.new.img c.args.self.now.at c.args.self.now.n c.args.self.now.acc c.args.width c.args.v
+          (n / 8) (n % 8) acc
           (omega arith) (omega arith) c.requires.held.small c.requires.width_bound.1 e c.store.ensures
           ∙ after_one _ c.args.width c.args.v);
       rest = ap (drop (c.args.self.now.at + n / 8)) c.store.ensures
