@@ -18,10 +18,6 @@ use Rattle.call_refusals.specs.Refusals.{Check, first_of, unless_refused, state_
 use Rattle.call_refusals.proofs.Laws.{Numbered, NoneHolds, accepted-none, first_done, number_is}
 use Rattle.call_load.specs.Cartridge.{Loaded}
 use Rattle.call_load.specs.Cartridge.{fresh_state, load_answer}
-use Rattle.refusals.specs.declared.Refusal.{Refusal}
-use Rattle.refusals.specs.declared.Refusal.TheVariants.{Image, State as TheState, Kind, Mapper, Size, Reserve, Arena, Address}
-use Rattle.refusals.specs.declared.Refusal.TheVariants.{Fill, Clocks, Room, Battery, Block, Full}
-use Rattle.refusals.specs.Refusal.{number_of}
 use Rattle.image_write.specs.Options.{image_at, option_set, room_for}
 use Rattle.image_write.specs.Writing.{room_check}
 use Rattle.image_read.specs.Reading.{ReadImage, read_checks, refused_read, read_image, state_in}
@@ -34,24 +30,6 @@ use Rattle.thm_range.proofs.Calls.{load_fits}
 use Rattle.host_state.specs.HostState.{Gives, unaltered}
 use Rattle.host_state.proofs.Laws.{called}
 use Rattle.host.specs.Host.{on_image}
-
--- ---- a refusal has a number
-
-pub number-some : (r : Refusal) → number_of r ≡ 0 → ⊥
-number-some Image h = omega arith
-number-some TheState h = omega arith
-number-some Kind h = omega arith
-number-some Mapper h = omega arith
-number-some Size h = omega arith
-number-some Reserve h = omega arith
-number-some Arena h = omega arith
-number-some Address h = omega arith
-number-some Fill h = omega arith
-number-some Clocks h = omega arith
-number-some Room h = omega arith
-number-some Battery h = omega arith
-number-some Block h = omega arith
-number-some Full h = omega arith
 
 -- ---- the state of an accepted image
 
