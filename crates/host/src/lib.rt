@@ -39,19 +39,20 @@ pub fn namco163_load(
     ensures arena_after { arena.new ≡ (host_load image.old arena.old mapper submapper flags in_database
         (sizes_of prg_rom prg_ram battery chr chr_ram ciram) no_options).lent }
 {
-    let sizes = sizes_of(prg_rom, prg_ram, battery, chr, chr_ram, ciram);
-    let options = Options {
-        f800_protects: false,
-    };
-    load_image(
+    namco163_load_options(
         image,
         arena,
         mapper,
         submapper,
         flags,
         in_database,
-        sizes,
-        options,
+        prg_rom,
+        prg_ram,
+        battery,
+        chr,
+        chr_ram,
+        ciram,
+        0,
     )
 }
 

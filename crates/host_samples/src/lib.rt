@@ -18,11 +18,7 @@ fn put_sample(bytes: &mut [u8], at: usize, x: f32)
     requires { (at + 4 ≤ length bytes.old) × T (not (is_nan x)) }
     ensures { bytes.new ≡ sets bytes.old at (sample_bytes x) }
 {
-    let b = f32::to_bits(x);
-    bytes[at] = (b / 16777216 % 256) as u8;
-    bytes[at + 1] = (b / 65536 % 256) as u8;
-    bytes[at + 2] = (b / 256 % 256) as u8;
-    bytes[at + 3] = (b % 256) as u8;
+    bytes[at..at + 4].copy_from_slice(&x.to_bits().to_be_bytes());
 }
 
 // The first k samples over the start of the bytes.
@@ -31,10 +27,8 @@ pub fn put_samples(samples: &[f32], k: usize, bytes: &mut [u8])
     requires by_index { (j : ℕ) → j < k → T (not (is_nan (get_or samples.now j nan))) }
     ensures { bytes.new ≡ each sample_bytes (take k samples.now) ++ drop (4 * k) bytes.old }
 {
-    let mut j: usize = 0;
-    while j < k {
+    for j in 0..k {
         put_sample(bytes, 4 * j, samples[j]);
-        j += 1;
     }
 }
 

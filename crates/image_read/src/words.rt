@@ -23,12 +23,7 @@ pub fn regs_of(w: u64) -> Regs
 pub fn board_numbered(n: u64) -> Board
     ensures { result ≡ board_numbered n }
 {
-    match n {
-        0 => Board::Unknown,
-        1 => Board::Namco163,
-        2 => Board::Namco175,
-        _ => Board::Namco340,
-    }
+    Board::try_from(n.min(3) as u8).unwrap_or(Board::Namco340)
 }
 
 pub fn mirroring_numbered(n: u64) -> Mirroring
