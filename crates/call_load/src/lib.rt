@@ -21,7 +21,10 @@ fn memory_at_load(mapper: u64, sizes: MemoryLayout) -> Memory
     ensures { result ≡ memory_at_load mapper sizes }
 {
     let battery_ext_len = if mapper == 19 { Audio::RAM_SIZE } else { 0 };
-    Memory { battery_ext_len, ..new_memory(sizes) }
+    Memory {
+        battery_ext_len,
+        ..new_memory(sizes)
+    }
 }
 
 fn fresh_state(
@@ -58,12 +61,5 @@ pub fn load(
 {
     check_load(mapper, sizes, arena.len())?;
     arena.fill(0);
-    Ok(fresh_state(
-        mapper as u16,
-        submapper,
-        flags,
-        known,
-        sizes,
-        options,
-    ))
+    Ok(fresh_state(mapper as u16, submapper, flags, known, sizes, options))
 }

@@ -49,7 +49,13 @@ pub fn region_peek(s: State, arena: &[u8], src: Src, offset: u64) -> Result<u8, 
     Ok(bytes::region_peek(s.memory, arena, src, offset))
 }
 
-pub fn region_write(s: State, arena: &mut [u8], src: Src, offset: u64, val: u8) -> Result<(), Refusal>
+pub fn region_write(
+    s: State,
+    arena: &mut [u8],
+    src: Src,
+    offset: u64,
+    val: u8,
+) -> Result<(), Refusal>
     ensures { (refusal_of result ≡ first_of (arena_checks s (length arena.old)))
         × (arena.new ≡ region_write_arena s arena.old src offset val) }
 {

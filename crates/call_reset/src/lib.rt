@@ -13,7 +13,11 @@ use refusals::Refusal;
 fn kind_of(kind: u64) -> ResetKind
     ensures { result ≡ kind_of kind }
 {
-    if kind == 0 { ResetKind::Soft } else { ResetKind::Hard }
+    if kind == 0 {
+        ResetKind::Soft
+    } else {
+        ResetKind::Hard
+    }
 }
 
 // Kind 0 is soft, 1 is hard (N3). The page entries stay until a write maps them anew (C8).

@@ -25,7 +25,12 @@ fn found_word(block: Block) -> u64
 }
 
 // Registers a block (K3). The word is the refusal number alone.
-pub fn namco163_register(directory: &mut [u64], start: u16, length: u64, number: u32) -> Result<u64, Refusal>
+pub fn namco163_register(
+    directory: &mut [u64],
+    start: u16,
+    length: u64,
+    number: u32,
+) -> Result<u64, Refusal>
     ensures value { word_of result ≡ register_refusal directory.old start length }
     ensures directory_after { directory.new ≡ registered directory.old start length number }
 {

@@ -114,7 +114,12 @@ pub fn namco163_read(image: &mut [u8], arena: &[u8], addr: u16) -> Result<u64, R
 }
 
 // The changed page entries: those of CHR in bits 8..23, those of PRG in bits 24..63 (H6).
-pub fn namco163_write(image: &mut [u8], arena: &mut [u8], addr: u16, val: u8) -> Result<u64, Refusal>
+pub fn namco163_write(
+    image: &mut [u8],
+    arena: &mut [u8],
+    addr: u16,
+    val: u8,
+) -> Result<u64, Refusal>
     ensures value { word_of result ≡ (host_write image.old arena.old addr val).word }
     ensures image_after { image.new ≡ (host_write image.old arena.old addr val).image }
     ensures arena_after { arena.new ≡ (host_write image.old arena.old addr val).lent }

@@ -44,12 +44,7 @@ pub fn reset_on(s: State, kind: u64, image: &mut [u8]) -> Result<u64, Refusal>
 }
 
 // A CPU read on the image's state, and the image of the state after it. Only the sound port at 4800..4FFF changes the state.
-pub fn read_on(
-    s: KnownState,
-    arena: &[u8],
-    addr: u16,
-    image: &mut [u8],
-) -> Result<u64, Refusal>
+pub fn read_on(s: KnownState, arena: &[u8], addr: u16, image: &mut [u8]) -> Result<u64, Refusal>
     requires { (room_for (option_set s.state) (length image.old) ≡ true) × (image.old ≡ image_at (length image.old) s.state) }
     ensures value { word_of result ≡ (read_on s.state image.old arena.now addr).word }
     ensures image_after { image.new ≡ (read_on s.state image.old arena.now addr).image }
@@ -101,12 +96,7 @@ fn run_through(
 }
 
 // A short run has a small buffer, since a buffer is cleared first.
-fn run_short(
-    s: KnownState,
-    n: u64,
-    samples: &mut [u8],
-    image: &mut [u8],
-) -> Result<u64, Refusal>
+fn run_short(s: KnownState, n: u64, samples: &mut [u8], image: &mut [u8]) -> Result<u64, Refusal>
     requires { (room_for (option_set s.state) (length image.old) ≡ true) × (n ≤ short_run) }
     ensures value { word_of result ≡ (run_on s.state image.old samples.old n).word }
     ensures image_after { image.new ≡ (run_on s.state image.old samples.old n).image }
@@ -116,12 +106,7 @@ fn run_short(
     run_through(s, n, samples, image, &mut buf)
 }
 
-fn run_long(
-    s: KnownState,
-    n: u64,
-    samples: &mut [u8],
-    image: &mut [u8],
-) -> Result<u64, Refusal>
+fn run_long(s: KnownState, n: u64, samples: &mut [u8], image: &mut [u8]) -> Result<u64, Refusal>
     requires { room_for (option_set s.state) (length image.old) ≡ true }
     ensures value { word_of result ≡ (run_on s.state image.old samples.old n).word }
     ensures image_after { image.new ≡ (run_on s.state image.old samples.old n).image }
@@ -132,12 +117,7 @@ fn run_long(
 }
 
 // A run from a state, and the image of the state after it.
-pub fn run_on(
-    s: KnownState,
-    n: u64,
-    samples: &mut [u8],
-    image: &mut [u8],
-) -> Result<u64, Refusal>
+pub fn run_on(s: KnownState, n: u64, samples: &mut [u8], image: &mut [u8]) -> Result<u64, Refusal>
     requires { room_for (option_set s.state) (length image.old) ≡ true }
     ensures value { word_of result ≡ (run_on s.state image.old samples.old n).word }
     ensures image_after { image.new ≡ (run_on s.state image.old samples.old n).image }

@@ -8,6 +8,6 @@ pub returns : goal.returns
 unfolding memory_at_load
 returns c =
     rw c.new_memory.ensures.0 (elim c.if-mapper-eq19.branch [
-      then-mapper-eq19 w ↦ rw (w.battery_ext_len-is, eq-eqb _ _ w.if-mapper-eq19.true)
+      | then-mapper-eq19 w ↦ rw (w.battery_ext_len-is, eq-eqb _ _ w.if-mapper-eq19.true)
       | else-mapper-eq19 w ↦ rw (w.battery_ext_len-is, ne_eqb _ _ w.if-mapper-eq19.false)
     ])
