@@ -89,3 +89,17 @@ impl Out {
         }
     }
 }
+
+#[cfg(test)]
+mod tests {
+    use super::*;
+
+    // That memory is there is what no clause says.
+    #[test]
+    fn makes_room(rt: HostRuntime) -> Result<(), AllocError> {
+        let mut out = Out::with_room(rt.alloc(), 2)?;
+        out.put_all(b"ok!");
+        assert_eq!(rt; out.as_slice(), b"ok".as_slice());
+        Ok(())
+    }
+}
