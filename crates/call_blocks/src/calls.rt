@@ -6,9 +6,10 @@ ghost use Rattle.call_load.specs.Cartridge.{loaded};
 ghost use Rattle.call_blocks.specs.Blocks.{with_directory, fill_leaves, fill_drops, sync_leaves, sync_drops};
 ghost use Rattle.call_blocks.specs.Blocks.{load_gives, load_leaves, load_drops};
 
-use board_state::{Options, State};
+use board_state::State;
+use call_load::Cartridge;
 use directory::fitness::check_directory;
-use memory::layout::{MemoryLayout, Src};
+use memory::layout::Src;
 use refusals::Refusal;
 
 pub fn fill(
@@ -41,24 +42,16 @@ pub fn sync_battery(d: &mut [u64], s: State, arena: &mut [u8]) -> Result<(), Ref
 }
 
 // It reads no place: a directory that is lent to a load may hold anything.
-pub fn load(
-    d: &mut [u64],
-    arena: &mut [u8],
-    mapper: u64,
-    submapper: u8,
-    flags: u8,
-    known: bool,
-    sizes: MemoryLayout,
-    options: Options,
-) -> Result<State, Refusal>
-    ensures value { loaded result ≡ load_gives d.old mapper submapper flags known sizes options (length arena.old) }
-    ensures arena_after { arena.new ≡ load_leaves d.old mapper sizes arena.old }
-    ensures d_after { d.new ≡ load_drops d.old mapper sizes arena.old }
+pub fn load(d: &mut [u64], arena: &mut [u8], cartridge: Cartridge) -> Result<State, Refusal>
+    ensures value { loaded result ≡ load_gives d.old cartridge.mapper cartridge.submapper cartridge.flags cartridge.known
+        cartridge.sizes cartridge.options (length arena.old) }
+    ensures arena_after { arena.new ≡ load_leaves d.old cartridge.mapper cartridge.sizes arena.old }
+    ensures d_after { d.new ≡ load_drops d.old cartridge.mapper cartridge.sizes arena.old }
 {
     if d.len() != 256 {
         return Err(Refusal::State);
     }
-    let fresh = call_load::load(arena, mapper, submapper, flags, known, sizes, options)?;
+    let fresh = call_load::load(arena, cartridge)?;
     d.fill(0);
     Ok(fresh)
 }

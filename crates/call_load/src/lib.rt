@@ -1,7 +1,7 @@
 // Load: a cartridge's numbers to a fresh state (L1 to L5), and the arena to zeros (R5).
 #![tactic(auto)]
 
-ghost use Rattle.std.specs.Prelude.{◌≡◌, true, length};
+ghost use Rattle.std.specs.Prelude.{◌^◌, ◌<◌, ◌≡◌, true, length};
 ghost use Rattle.memory.specs.Layout.{within_limits};
 ghost use Rattle.call_load.specs.Cartridge.{memory_at_load, fresh_state, loaded, load_answer, load_arena, LoadFits};
 
@@ -15,6 +15,18 @@ use memory_map::new::new_memory;
 use refusals::Refusal;
 use sound::audio::Audio;
 
+// What a load is given.
+#[derive(Clone, Copy)]
+pub struct Cartridge {
+    pub mapper: u64,
+    pub submapper: u8,
+    pub flags: u8,
+    // Whether the game database has an entry.
+    pub known: bool,
+    pub sizes: MemoryLayout,
+    pub options: Options,
+}
+
 // L5: only the 163 has the sound chip, and so the sound RAM that the battery covers; mapper 210 uses nothing of a reserve.
 fn memory_at_load(mapper: u64, sizes: MemoryLayout) -> Memory
     requires { within_limits sizes ≡ true }
@@ -27,19 +39,21 @@ fn memory_at_load(mapper: u64, sizes: MemoryLayout) -> Memory
     }
 }
 
-fn fresh_state(
-    mapper: u16,
-    submapper: u8,
-    flags: u8,
-    known: bool,
-    sizes: MemoryLayout,
-    options: Options,
-) -> State
-    requires { LoadFits mapper sizes }
-    ensures { result ≡ fresh_state mapper submapper flags known sizes options }
+// L1, L2: of a mapper that is 19 or 210, and sizes that a load accepts.
+fn fresh_state(cartridge: Cartridge) -> State
+    requires { (cartridge.mapper < 2 ^ 16) × LoadFits cartridge.mapper cartridge.sizes }
+    ensures { result ≡ fresh_state cartridge.mapper cartridge.submapper cartridge.flags cartridge.known cartridge.sizes cartridge.options }
 {
-    let chip = Namco163::load(mapper, submapper, flags, known);
-    let fresh = memory_at_load(mapper as u64, sizes);
+    let Cartridge {
+        mapper,
+        submapper,
+        flags,
+        known,
+        sizes,
+        options,
+    } = cartridge;
+    let chip = Namco163::load(mapper as u16, submapper, flags, known);
+    let fresh = memory_at_load(mapper, sizes);
     State {
         chip,
         memory: remap_banks(options.f800_protects, chip, fresh),
@@ -47,19 +61,11 @@ fn fresh_state(
     }
 }
 
-pub fn load(
-    arena: &mut [u8],
-    mapper: u64,
-    submapper: u8,
-    flags: u8,
-    known: bool,
-    sizes: MemoryLayout,
-    options: Options,
-) -> Result<State, Refusal>
-    ensures { (loaded result ≡ load_answer mapper submapper flags known sizes options (length arena.old))
-        × (arena.new ≡ load_arena mapper sizes arena.old) }
+pub fn load(arena: &mut [u8], cartridge: Cartridge) -> Result<State, Refusal>
+    ensures { (loaded result ≡ load_answer cartridge.mapper cartridge.submapper cartridge.flags cartridge.known cartridge.sizes
+        cartridge.options (length arena.old)) × (arena.new ≡ load_arena cartridge.mapper cartridge.sizes arena.old) }
 {
-    check_load(mapper, sizes, arena.len())?;
+    check_load(cartridge.mapper, cartridge.sizes, arena.len())?;
     arena.fill(0);
-    Ok(fresh_state(mapper as u16, submapper, flags, known, sizes, options))
+    Ok(fresh_state(cartridge))
 }

@@ -29,7 +29,8 @@ use Rattle.thm_machine.proofs.Start.{load-starts}
 use Rattle.thm_range.proofs.Calls.{load_fits}
 use Rattle.host_state.specs.HostState.{Gives, unaltered}
 use Rattle.host_state.proofs.Laws.{called}
-use Rattle.host.specs.Host.{on_image}
+use Rattle.bits.specs.Fields.{bit}
+use Rattle.host.specs.Host.{yes, on_image, host_load}
 
 -- ---- the state of an accepted image
 
@@ -126,6 +127,17 @@ pub roomy : (option : Bool) (img : List ℕ) (cs : List Check) → room_for opti
     → first_of cs ≡ first_of (room_check option (length img) ∷ cs)
 unfolding first_of
 roomy option img cs e = rw e
+
+-- ---- a number that says yes or no
+
+pub yes-bit : (b : Bool) → yes (bit b) ≡ b
+yes-bit true = refl
+yes-bit false = refl
+
+pub known-bit : (img arena : List ℕ) (mapper sub flags n : ℕ) (sizes : MemoryLayout) (options : Options)
+    → host_load img arena mapper sub flags (bit (yes n)) sizes options ≡ host_load img arena mapper sub flags n sizes options
+unfolding host_load
+known-bit img arena mapper sub flags n sizes options = rw (yes-bit (yes n))
 
 -- ---- a load by its answer r
 

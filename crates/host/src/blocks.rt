@@ -10,6 +10,7 @@ ghost use Rattle.host.specs.Blocks.{host_stored, host_stored_places};
 use crate::load::sizes_of;
 use board_state::Options;
 use call_blocks::calls::load;
+use call_load::Cartridge;
 use directory::block::Block;
 use directory::{find, lookup, register};
 use host_blocks::{stored_on, write_blocks_on};
@@ -85,20 +86,17 @@ pub fn namco163_load_blocks(
     if !room_for(f800_protects != 0, image.len()) {
         return Err(Refusal::Image);
     }
-    let sizes = sizes_of(prg_rom, prg_ram, battery, chr, chr_ram, ciram);
-    let options = Options {
-        f800_protects: f800_protects != 0,
-    };
-    let fresh = load(
-        directory,
-        arena,
+    let cartridge = Cartridge {
         mapper,
         submapper,
         flags,
-        in_database != 0,
-        sizes,
-        options,
-    )?;
+        known: in_database != 0,
+        sizes: sizes_of(prg_rom, prg_ram, battery, chr, chr_ram, ciram),
+        options: Options {
+            f800_protects: f800_protects != 0,
+        },
+    };
+    let fresh = load(directory, arena, cartridge)?;
     put_image(image, fresh);
     Ok(0)
 }

@@ -12,6 +12,7 @@ ghost use Rattle.host.specs.Host.{sizes_of, options_of, host_load, host_reset, h
 
 use crate::load::{load_image, sizes_of};
 use board_state::Options;
+use call_load::Cartridge;
 use host_preview::preview_on;
 use host_state::{read_on, reset_on, run_on, write_on};
 use image_read::reading::read_image;
@@ -79,20 +80,17 @@ pub fn namco163_load_options(
     ensures arena_after { arena.new ≡ (host_load image.old arena.old mapper submapper flags in_database
         (sizes_of prg_rom prg_ram battery chr chr_ram ciram) (options_of f800_protects)).lent }
 {
-    let sizes = sizes_of(prg_rom, prg_ram, battery, chr, chr_ram, ciram);
-    let options = Options {
-        f800_protects: f800_protects != 0,
-    };
-    load_image(
-        image,
-        arena,
+    let cartridge = Cartridge {
         mapper,
         submapper,
         flags,
-        in_database,
-        sizes,
-        options,
-    )
+        known: in_database != 0,
+        sizes: sizes_of(prg_rom, prg_ram, battery, chr, chr_ram, ciram),
+        options: Options {
+            f800_protects: f800_protects != 0,
+        },
+    };
+    load_image(image, arena, cartridge)
 }
 
 // Kind 0 is soft, 1 is hard (N3).

@@ -1,10 +1,10 @@
 // Loads into an image of either length (H10): what the C calls share.
 ghost use Rattle.std.specs.Prelude.{◌≡◌};
+ghost use Rattle.bits.specs.Fields.{bit};
 ghost use Rattle.refusals.specs.Refusal.{word_of};
 ghost use Rattle.host.specs.Host.{sizes_of, host_load};
 
-use board_state::Options;
-use call_load::load;
+use call_load::{Cartridge, load};
 use image_write::writing::{put_image, room_for};
 use memory::layout::MemoryLayout;
 use refusals::Refusal;
@@ -29,26 +29,18 @@ pub fn sizes_of(
     }
 }
 
-pub fn load_image(
-    image: &mut [u8],
-    arena: &mut [u8],
-    mapper: u64,
-    submapper: u8,
-    flags: u8,
-    known: u64,
-    sizes: MemoryLayout,
-    options: Options,
-) -> Result<u64, Refusal>
-    ensures value { word_of result ≡ (host_load image.old arena.old mapper submapper flags known sizes options).word }
-    ensures image_after { image.new
-        ≡ (host_load image.old arena.old mapper submapper flags known sizes options).image }
-    ensures arena_after { arena.new
-        ≡ (host_load image.old arena.old mapper submapper flags known sizes options).lent }
+pub fn load_image(image: &mut [u8], arena: &mut [u8], cartridge: Cartridge) -> Result<u64, Refusal>
+    ensures value { word_of result ≡ (host_load image.old arena.old cartridge.mapper cartridge.submapper cartridge.flags
+        (bit cartridge.known) cartridge.sizes cartridge.options).word }
+    ensures image_after { image.new ≡ (host_load image.old arena.old cartridge.mapper cartridge.submapper cartridge.flags
+        (bit cartridge.known) cartridge.sizes cartridge.options).image }
+    ensures arena_after { arena.new ≡ (host_load image.old arena.old cartridge.mapper cartridge.submapper cartridge.flags
+        (bit cartridge.known) cartridge.sizes cartridge.options).lent }
 {
-    if !room_for(options.f800_protects, image.len()) {
+    if !room_for(cartridge.options.f800_protects, image.len()) {
         return Err(Refusal::Image);
     }
-    let fresh = load(arena, mapper, submapper, flags, known != 0, sizes, options)?;
+    let fresh = load(arena, cartridge)?;
     put_image(image, fresh);
     Ok(0)
 }

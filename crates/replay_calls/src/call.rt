@@ -2,21 +2,12 @@
 use crate::arguments::{parse, parse_region};
 use crate::name::Name;
 use board_chip::reset::ResetKind;
+use board_state::Options;
+use call_load::Cartridge;
 use memory::layout::{MemoryLayout, Src};
 use replay_text::hex::decode;
 use replay_text::number::parse_number;
 use replay_text::words::{spaces, word};
-
-// What a load names.
-#[derive(Clone, Copy)]
-pub struct Cartridge {
-    pub mapper: u64,
-    pub submapper: u8,
-    pub flags: u8,
-    pub known: bool,
-    pub sizes: MemoryLayout,
-    pub f800_protects: bool,
-}
 
 #[derive(Clone, Copy)]
 pub enum Call<'a> {
@@ -92,7 +83,7 @@ fn load(line: &[u8]) -> Option<Cartridge> {
             chr_writable: chr_writable != 0,
             ciram,
         },
-        f800_protects,
+        options: Options { f800_protects },
     })
 }
 

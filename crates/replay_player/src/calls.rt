@@ -1,15 +1,16 @@
 // Each call on the cartridge and its directory, and its answer.
 use crate::player::Player;
 use board_chip::reset::ResetKind;
-use board_state::{Options, State};
+use board_state::State;
 use call_blocks::writes as blocks;
 use call_cpu::calls as board;
+use call_load::Cartridge;
 use image_write::sections::IMAGE_BYTES;
 use image_write::writing::write_image;
 use memory::layout::{Layout, MemoryLayout, Src};
 use refusals::Refusal;
 use replay_answers::answers;
-use replay_calls::call::{Cartridge, IMAGE_ROOM, SAMPLES_ROOM};
+use replay_calls::call::{IMAGE_ROOM, SAMPLES_ROOM};
 
 // The length of the arena that a load is lent: none for a layout over a limit.
 fn arena_len(sizes: MemoryLayout) -> usize {
@@ -39,14 +40,7 @@ impl Player {
         let loaded = call_blocks::calls::load(
             &mut self.directory,
             &mut self.arena[..lent],
-            cartridge.mapper,
-            cartridge.submapper,
-            cartridge.flags,
-            cartridge.known,
-            cartridge.sizes,
-            Options {
-                f800_protects: cartridge.f800_protects,
-            },
+            cartridge,
         );
         match loaded {
             Ok(fresh) => {

@@ -1,9 +1,8 @@
 -- `load` meets its contract: refused, and accepted.
 use mathlib.Core.Path.{sym}
-use native.Mathlib.Omega.{arith}
 use Rattle.refusals.proofs.Numbers.{errs, refuses}
 use Rattle.call_load.specs.Cartridge.{load_answer, load_arena}
-use Rattle.call_load.proofs.Laws.{LoadGood, load-good}
+use Rattle.call_load.proofs.Laws.{load-good}
 use Rattle.call_load.proofs.load.Goals as goal
 
 pub returns-in_err-check_load : goal.returns-in_err-check_load
@@ -14,12 +13,8 @@ returns-in_err-check_load c = (
 )
 
 -- none of the checks holds
-pub overflow_cast-mapper : goal.overflow_cast-mapper
-overflow_cast-mapper c =
-    let good : LoadGood c.args.mapper c.args.sizes = load-good _ _ _ (sym c.in_ok-check_load.ensures) in omega (arith, good.small)
-
 pub fresh_state-requires : goal.fresh_state-requires
-fresh_state-requires c = (load-good _ _ _ (sym c.in_ok-check_load.ensures)).fits
+fresh_state-requires c = let good = load-good _ _ _ (sym c.in_ok-check_load.ensures) in (good.small, good.fits)
 
 pub returns : goal.returns
 unfolding load_answer load_arena

@@ -40,11 +40,11 @@ returns-in_err-fresh c =
     let load = c.in_err-fresh.ensures in
     let room-here = sym c.room_for.ensures ∙ c.if-not-room_for.false in
     let loaded = load-blocks a.image.now a.arena.now a.directory.now a.mapper a.submapper a.flags (yes a.in_database) sizes options
-    _ room-here (rw c.sizes_of-sizes.ensures at load.value) in
+    _ room-here (rw c.sizes_of.ensures at load.value) in
     let checks = load_blocks_checks a.image.now a.arena.now a.directory.now a.mapper sizes options in
     let call = called checks a.image.now a.arena.now given given _ loaded.number refl in
-    let arena-left = ap (λ (x : MemoryLayout). load_leaves a.directory.now a.mapper x a.arena.now) c.sizes_of-sizes.ensures in
-    let places-left = ap (λ (x : MemoryLayout). load_drops a.directory.now a.mapper x a.arena.now) c.sizes_of-sizes.ensures in
+    let arena-left = ap (λ (x : MemoryLayout). load_leaves a.directory.now a.mapper x a.arena.now) c.sizes_of.ensures in
+    let places-left = ap (λ (x : MemoryLayout). load_drops a.directory.now a.mapper x a.arena.now) c.sizes_of.ensures in
     let e = call.refused (numbered _) in
     record {
       value = passed-word _ _ c.from_residual.ensures.1 ∙ word_of e;
@@ -60,7 +60,7 @@ put_image-requires c =
     let options = options_of a.f800_protects in
     let room-here = sym c.room_for.ensures ∙ c.if-not-room_for.false in
     let loaded = load-blocks a.image.now a.arena.now a.directory.now a.mapper a.submapper a.flags (yes a.in_database) sizes options
-    _ room-here (rw c.sizes_of-sizes.ensures at c.in_ok-fresh.ensures.value) in
+    _ room-here (rw c.sizes_of.ensures at c.in_ok-fresh.ensures.value) in
     let own = loaded.own-load refl in (
       room-fresh a.mapper a.submapper a.flags (yes a.in_database) sizes options a.arena.now _ own refl (length a.image.now) room-here,
       load-known a.mapper a.submapper a.flags (yes a.in_database) sizes options a.arena.now _ own (search rules) refl,
@@ -76,11 +76,11 @@ returns c =
     let load = c.in_ok-fresh.ensures in
     let room-here = sym c.room_for.ensures ∙ c.if-not-room_for.false in
     let loaded = load-blocks a.image.now a.arena.now a.directory.now a.mapper a.submapper a.flags (yes a.in_database) sizes options
-    _ room-here (rw c.sizes_of-sizes.ensures at load.value) in
+    _ room-here (rw c.sizes_of.ensures at load.value) in
     let checks = load_blocks_checks a.image.now a.arena.now a.directory.now a.mapper sizes options in
     let call = called checks a.image.now a.arena.now given given _ loaded.number refl in
-    let arena-left = ap (λ (x : MemoryLayout). load_leaves a.directory.now a.mapper x a.arena.now) c.sizes_of-sizes.ensures in
-    let places-left = ap (λ (x : MemoryLayout). load_drops a.directory.now a.mapper x a.arena.now) c.sizes_of-sizes.ensures in
+    let arena-left = ap (λ (x : MemoryLayout). load_leaves a.directory.now a.mapper x a.arena.now) c.sizes_of.ensures in
+    let places-left = ap (λ (x : MemoryLayout). load_drops a.directory.now a.mapper x a.arena.now) c.sizes_of.ensures in
     let e = call.accepted refl in
     let fresh = load_fresh a.mapper a.submapper a.flags (yes a.in_database) sizes options a.arena.now _ (loaded.own-load refl) refl in
     record {
