@@ -1,4 +1,5 @@
-// A bit cursor: fields of any number of bits, most significant first, whole bytes stored or taken as they fill.
+// A bit cursor: fields of any number of bits, most significant first, whole bytes stored or taken as they fill. What is known of one stands
+// in the contracts (`Held`, `Behind`) and not in the type: a reader's fact is about the bytes that it reads, which are lent to each call.
 ghost use Rattle.std.specs.Prelude.{◌+◌, ◌*◌, ◌^◌, ◌<◌, ◌≤◌, ◌≡◌, [], ◌∷◌, length, replicate};
 ghost use Rattle.bits.specs.Fields.{Fit};
 ghost use Rattle.bits.specs.Words.{eights};

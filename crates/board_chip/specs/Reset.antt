@@ -1,11 +1,16 @@
 -- C7, C8: the Rust's `reset`.
-use Rattle.std.specs.Prelude.{true, false, List, slice_set}
+use Rattle.std.specs.Prelude.{ℕ, true, false, List, slice_set}
 use Rattle.sound.specs.Audio.{fresh}
 use Rattle.board_chip.specs.declared.namco163.Regs.{Regs}
 use Rattle.board_chip.specs.declared.namco163.Namco163.{Namco163}
 use Rattle.board_chip.specs.declared.reset.ResetKind.{ResetKind}
 use Rattle.board_chip.specs.declared.reset.ResetKind.TheVariants.{Soft, Hard}
 use Rattle.board_chip.specs.Namco163.{with_regs, with_audio, with_written, with_slots}
+
+-- N3: the host's number of a kind
+abbrev pub kind_num : ResetKind → ℕ
+kind_num Soft = 0
+kind_num Hard = 1
 
 -- L1, C7: the Rust's `Regs::default`
 abbrev pub no_regs : Regs

@@ -1,14 +1,44 @@
 // Reset, soft and hard.
-ghost use Rattle.std.specs.Prelude.{◌≡◌};
-ghost use Rattle.board_chip.specs.Reset.{no_regs, reset_regs, reset_chip};
+ghost use Rattle.std.specs.Prelude.{◌≡◌, ◌<◌, MatchResult};
+ghost use Rattle.board_chip.specs.Reset.{kind_num, no_regs, reset_regs, reset_chip};
 
 use crate::namco163::{Namco163, Regs};
 use sound::audio::Audio;
 
-#[derive(Clone, Copy)]
+#[derive(Clone, Copy, Debug, PartialEq, Eq)]
 pub enum ResetKind {
     Soft,
     Hard,
+}
+
+// A number that no kind has.
+#[derive(Clone, Copy, Debug, PartialEq, Eq)]
+pub struct NoKind(pub u64);
+
+// The host's number of a kind (N3).
+impl From<ResetKind> for u64 {
+    ghost from_gives = { λ k n. n ≡ kind_num k };
+
+    fn from(kind: ResetKind) -> u64 {
+        match kind {
+            ResetKind::Soft => 0,
+            ResetKind::Hard => 1,
+        }
+    }
+}
+
+impl TryFrom<u64> for ResetKind {
+    type Error = NoKind;
+
+    ghost try_from_gives = { λ n r. MatchResult r (λ k. kind_num k ≡ n) (λ e. (e.0 ≡ n) × (1 < n)) };
+
+    fn try_from(n: u64) -> Result<Self, NoKind> {
+        match n {
+            0 => Ok(ResetKind::Soft),
+            1 => Ok(ResetKind::Hard),
+            _ => Err(NoKind(n)),
+        }
+    }
 }
 
 impl Regs {

@@ -1,4 +1,5 @@
-// The CPU's calls: read and peek (L8), and write (L7, L15).
+// The CPU's calls: read and peek (L8), and write (L7, L15). State and arena stand side by side here and in the other calls: a read borrows
+// the arena and a write changes it, so one struct of both would come in two forms, and each call twice.
 ghost use Rattle.std.specs.Prelude.{◌≡◌};
 ghost use Rattle.memory_bytes.specs.Bytes.{Backed};
 ghost use Rattle.memory.specs.Range.{Sized};

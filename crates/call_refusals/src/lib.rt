@@ -3,23 +3,27 @@
 
 pub mod known; // known.rt: a state that is in range
 
-ghost use Rattle.std.specs.Prelude.{◌≡◌, ◌&&◌, eqb};
+ghost use Rattle.std.specs.Prelude.{◌≡◌, ◌&&◌, eqb, IfOk};
+ghost use Rattle.board_chip.specs.Reset.{kind_num};
 ghost use Rattle.refusals.specs.Refusal.{refusal_of};
 ghost use Rattle.call_refusals.specs.Refusals.{first_of, reset_checks, arena_checks, cpu_checks, fill_checks, battery_checks, load_checks};
 
+use board_chip::reset::ResetKind;
 use board_state::{State, mapper_ok};
 use known::KnownState;
 use memory::layout::{Layout, MemoryLayout, Src};
 use refusals::Refusal;
 
-pub fn check_reset(s: State, kind: u64) -> Result<(), Refusal>
-    ensures { refusal_of result ≡ first_of (reset_checks s kind) }
+// A reset's checks, and its kind.
+pub fn check_reset(s: State, kind: u64) -> Result<ResetKind, Refusal>
+    ensures number { refusal_of result ≡ first_of (reset_checks s kind) }
+    ensures kind { IfOk result (λ k. kind_num k ≡ kind) }
 {
     KnownState::new(s)?;
-    if 1 < kind {
-        return Err(Refusal::Kind);
+    match ResetKind::try_from(kind) {
+        Ok(kind) => Ok(kind),
+        Err(_) => Err(Refusal::Kind),
     }
-    Ok(())
 }
 
 pub fn check_arena_known(s: KnownState, len: usize) -> Result<(), Refusal>

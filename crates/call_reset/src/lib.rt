@@ -3,28 +3,17 @@
 
 ghost use Rattle.std.specs.Prelude.{◌≡◌};
 ghost use Rattle.call_answers.specs.Answers.{altered};
-ghost use Rattle.call_reset.specs.Reset.{kind_of, reset_state};
+ghost use Rattle.call_reset.specs.Reset.{reset_state};
 
-use board_chip::reset::ResetKind;
 use board_state::State;
 use call_refusals::check_reset;
 use refusals::Refusal;
-
-fn kind_of(kind: u64) -> ResetKind
-    ensures { result ≡ kind_of kind }
-{
-    if kind == 0 {
-        ResetKind::Soft
-    } else {
-        ResetKind::Hard
-    }
-}
 
 // Kind 0 is soft, 1 is hard (N3). The page entries stay until a write maps them anew (C8).
 pub fn reset(s: State, kind: u64) -> Result<State, Refusal>
     ensures { altered s result ≡ reset_state s kind }
 {
-    check_reset(s, kind)?;
-    let chip = s.chip.reset(kind_of(kind));
+    let kind = check_reset(s, kind)?;
+    let chip = s.chip.reset(kind);
     Ok(State { chip, ..s })
 }

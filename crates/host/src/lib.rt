@@ -1,5 +1,5 @@
 // The calls of the C host (H4), which `host_c` exports: the seven without a directory of blocks here, the six with one in blocks.rt. Each
-// answers 64 bits, with its refusal number in the low 8, 0 for accepted (H6).
+// gives its word above the low 8 bits, or the refusal whose number stands there (H6). Their parameters are the C calls', one by one.
 #![tactic(auto)]
 
 pub mod blocks; // blocks.rt: register, lookup, find, and load, write and stored with a directory

@@ -1,5 +1,5 @@
-// The archive for C (H4): the calls of `host` under their C names, with the same contracts. The seven without a directory of blocks are here,
-// the six with one in blocks.rt.
+// The archive for C (H4): each call of `host` once more under its C name, since an archive is a crate that no other can name. A refusal
+// becomes its number here (H6). The seven without a directory of blocks are here, the six with one in blocks.rt.
 #![tactic(auto)]
 
 mod blocks; // blocks.rt: register, lookup, find, and load, write and stored with a directory

@@ -1,4 +1,5 @@
-// The host's calls on a state (H4): the answer's word (H6), and the image of the state after it.
+// The host's calls on a state (H4): the answer's word (H6), and the image of the state after it. That the image has room for the state is
+// asked of each: the image is lent by C, and a type that holds it and the state would have to borrow it from the read to the write.
 #![tactic(auto)]
 
 ghost use Rattle.std.specs.Prelude.{◌+◌, ◌*◌, ◌%◌, ◌^◌, ◌≤◌, ◌≡◌, true, length};
