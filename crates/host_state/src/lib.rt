@@ -7,7 +7,7 @@ ghost use Rattle.board_state.specs.State.{Known};
 ghost use Rattle.refusals.specs.Refusal.{word_of};
 ghost use Rattle.image_write.specs.Options.{image_at, option_set, room_for};
 ghost use Rattle.host_samples.specs.Samples.{HoldsRun};
-ghost use Rattle.host_state.specs.HostState.{reset_on, read_on, write_on, run_on, short_run};
+ghost use Rattle.host_state.specs.HostState.{reset_on, read_on, write_on, run_on};
 
 use board_state::State;
 use call_cpu::calls::{cpu_read_known, cpu_write_known};
@@ -96,28 +96,24 @@ fn run_through(
     Ok((ran.made as u64) * 256 + (ran.rise as u64) * 4_294_967_296)
 }
 
-// A short run has a small buffer, since a buffer is cleared first.
-fn run_short(s: KnownState, n: u64, samples: &mut [u8], image: &mut [u8]) -> Result<u64, Refusal>
-    requires { (room_for (option_set s.state) (length image.old) ≡ true) × (n ≤ short_run) }
+// The same, with a buffer of N places, so few that their bytes have a count.
+fn run_with<const N: usize>(
+    s: KnownState,
+    n: u64,
+    samples: &mut [u8],
+    image: &mut [u8],
+) -> Result<u64, Refusal>
+    requires room { room_for (option_set s.state) (length image.old) ≡ true }
+    requires buffer { HoldsRun s.state n N × (N ≤ 2 ^ 32) }
     ensures value { word_of result ≡ (run_on s.state image.old samples.old n).word }
     ensures image_after { image.new ≡ (run_on s.state image.old samples.old n).image }
     ensures samples_after { samples.new ≡ (run_on s.state image.old samples.old n).lent }
 {
-    let mut buf = [0.0f32; SHORT_SAMPLES];
+    let mut buf = [0.0f32; N];
     run_through(s, n, samples, image, &mut buf)
 }
 
-fn run_long(s: KnownState, n: u64, samples: &mut [u8], image: &mut [u8]) -> Result<u64, Refusal>
-    requires { room_for (option_set s.state) (length image.old) ≡ true }
-    ensures value { word_of result ≡ (run_on s.state image.old samples.old n).word }
-    ensures image_after { image.new ≡ (run_on s.state image.old samples.old n).image }
-    ensures samples_after { samples.new ≡ (run_on s.state image.old samples.old n).lent }
-{
-    let mut buf = [0.0f32; SAMPLES_MOST];
-    run_through(s, n, samples, image, &mut buf)
-}
-
-// A run from a state, and the image of the state after it.
+// A run from a state, and the image of the state after it. A short run has a small buffer, since a buffer is cleared first.
 pub fn run_on(s: KnownState, n: u64, samples: &mut [u8], image: &mut [u8]) -> Result<u64, Refusal>
     requires { room_for (option_set s.state) (length image.old) ≡ true }
     ensures value { word_of result ≡ (run_on s.state image.old samples.old n).word }
@@ -125,7 +121,7 @@ pub fn run_on(s: KnownState, n: u64, samples: &mut [u8], image: &mut [u8]) -> Re
     ensures samples_after { samples.new ≡ (run_on s.state image.old samples.old n).lent }
 {
     if n <= SHORT_RUN {
-        return run_short(s, n, samples, image);
+        return run_with::<SHORT_SAMPLES>(s, n, samples, image);
     }
-    run_long(s, n, samples, image)
+    run_with::<SAMPLES_MOST>(s, n, samples, image)
 }

@@ -1,14 +1,11 @@
 -- The fields of one word.
-use mathlib.Core.Path.{◌≡◌, refl}
+use mathlib.Core.Path.{◌≡◌}
 use mathlib.Core.List.{List, [], ◌∷◌}
-use Prim.Native.Nat.{ℕ, zero, suc, ◌-◌, ◌/◌, ◌%◌, ◌^◌, ◌<◌}
+use Prim.Native.Nat.{ℕ, ◌-◌, ◌/◌, ◌%◌, ◌^◌, ◌<◌}
 use native.Mathlib.Nat.{div-one, mod-eq_of_lt}
 use lib.ListN.{take, drop}
 use Rattle.bits.specs.Fields.{total, unpack}
 use Rattle.bits.specs.Words.{word_of}
-use Rattle.board_chip.specs.declared.namco163.Board.TheVariants.{Namco340}
-use Rattle.memory.specs.declared.mirroring.Mirroring.TheVariants.{FourScreen}
-use Rattle.image_read.specs.Reading.{board_numbered, mirroring_numbered}
 use Rattle.image_read.specs.Sections.{fields_at}
 use Rattle.image_write.specs.Image.{image_bytes, part, sound_widths, memory_widths}
 use Rattle.image_write.specs.Sections.{port_at, levels_at, out_at, phases_at, layout_at}

@@ -1,4 +1,5 @@
 -- RoundTrip has the promises. The other files are the laws that they and the proofs of src/ rest on.
+pub mod Arrays
 pub mod Fields
 pub mod Parts
 pub mod Sections

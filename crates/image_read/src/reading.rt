@@ -91,11 +91,7 @@ fn levels_of(ns: [u32; 8]) -> [f32; 8]
     requires { (i : ℕ) → get_or ns i 0 < 4096 }
     ensures { result ≡ map whole ns }
 {
-    let mut outs = [0.0f32; 8];
-    for i in 0..8 {
-        outs[i] = ns[i] as f32;
-    }
-    outs
+    ns.map(|n| n as f32)
 }
 
 fn get_levels(img: &[u8; IMAGE_BYTES]) -> [f32; 8]

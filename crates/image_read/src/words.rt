@@ -36,12 +36,7 @@ pub fn mirroring_numbered(n: u64) -> Mirroring
 pub fn flags_of(w: u64) -> [bool; 12]
     ensures { result ≡ map is_set (unpack (replicate 12 1) w) }
 {
-    let mut flags = [false; 12];
-    for i in 0..12 {
-        let word = w >> (11 - i);
-        flags[i] = word % 2 == 1;
-    }
-    flags
+    std::array::from_fn(|i| (w >> (11 - i)) % 2 == 1)
 }
 
 // The twelve CHR banks of two words, six in each.

@@ -1,7 +1,6 @@
 -- `write_on` meets its contract: refused, and accepted. The PRG mask has no bit below 24, so it and the CHR mask do not meet.
 use Prim.Native.Nat.{◌%◌, ◌^◌}
 use mathlib.Core.Path.{refl, ap, ◌∙◌}
-use native.Mathlib.Omega.{arith}
 use borrow.Author.Rules.{rules}
 use lib.ListN.{length}
 use Rattle.refusals.proofs.Numbers.{numbered, errs}
@@ -30,7 +29,7 @@ put_image-requires c =
     let written = c.in_ok-written.ensures.0 in
     let call = write-called a.s.state a.image.now a.arena.now a.addr a.val _ written in (
       room-write a.s.state a.arena.now a.addr a.val _ (length a.image.now) written c.requires,
-      known-write a.s.state a.arena.now a.addr a.val _ written (search rules) (λ i. omega (arith, c.slice_known-1.given i))
+      known-write a.s.state a.arena.now a.addr a.val _ written (search rules) (search rules)
           (call.none refl) (known-state a.s _ c.well_formed.0),
     )
 

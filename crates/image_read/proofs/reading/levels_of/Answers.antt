@@ -1,24 +1,25 @@
 -- `levels_of` meets its contract: numbers below 4096 are floats exactly.
-use Rattle.std.proofs.Common.{◌≡◌, List, [], ◌∷◌, ◌++◌, take, length, get_or, ap, sym, ◌∙◌, arith, rules}
-use native.Mathlib.Numerals.{add-one}
-use lib.Ieee.{Float}
-use lib.ListN.{length-set}
-use lib.Seq.{take-suc, take-suc-set, take_all}
-use mathlib.Core.List.{map-append}
+use Rattle.std.proofs.Common.{◌≡◌, ◌<◌, ℕ, length, get_or, subst, sym, ◌∙◌, arith, rules}
+use Rattle.std.proofs.lemmas.Iterator.Adapters.{serves_from_places}
+use Rattle.std.proofs.lemmas.Grind.{get_or_default_zero}
 use Rattle.sound.specs.Levels.{whole}
+use Rattle.image_read.proofs.Arrays.{list_road, mapped_is}
 use Rattle.image_read.proofs.reading.levels_of.Goals as goal
 
-pub loop-i-preserved : goal.loop-i-preserved
-loop-i-preserved c =
-    let n = get_or c.args.ns c.loop-i.i 0 in
-    let b : length c.args.ns ≡ 8 = search rules in (
-      rw length-set c.loop-i.invariant.0,
-      rw (add-one c.loop-i.i, take-suc-set c.loop-i.outs c.loop-i.i (whole n) (omega arith), take-suc c.args.ns c.loop-i.i 0 (omega arith))
-          (ap (λ (l : List Float). l ++ whole n ∷ []) c.loop-i.invariant.1 ∙ sym (map-append whole (take c.loop-i.i c.args.ns) (n ∷ []))),
+pub map-requires : goal.map-requires
+map-requires c =
+    let small : (x k : ℕ) → k < length c.args.ns → x ≡ get_or c.args.ns k x → x < 4096 =
+    λ x k l e. subst (λ (n : ℕ). n < 4096) (sym (e ∙ get_or_default_zero c.args.ns k x l)) (c.requires k) in (
+      omega arith,
+      (
+        omega arith,
+        (
+          omega arith,
+          serves_from_places (list_road c.args.ns) (λ x q r. search rules)
+              (λ x k l e. let b = small x k l e in search rules),
+        ),
+      ),
     )
 
 pub returns : goal.returns
-returns c =
-    let b : length c.args.ns ≡ 8 = search rules in
-    let e : c.loop-i.i ≡ 8 = omega arith in
-    rw (e, take_all 8 c.loop-i.outs (omega arith), take_all 8 c.args.ns (omega arith)) at c.loop-i.invariant.1
+returns c = mapped_is c.map.ensures.items (search rules) 0 whole (λ x y q k. search rules)
