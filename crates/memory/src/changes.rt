@@ -24,7 +24,7 @@ pub struct Changed {
 }
 
 impl Changed {
-    // What a refused write answers.
+    // The zeros that N21 has for a refused write. No call gives them; where nothing changed, `lowest` is the table's length.
     pub const NONE: Changed = Changed {
         prg: Changes {
             mask: 0,
