@@ -3,7 +3,7 @@ use Rattle.std.proofs.Common.{◌≡◌, ℕ, true, false, List, [], ◌∷◌, 
 use Rattle.directory.specs.Block.{fits, under, holds, word_of}
 use Rattle.directory.specs.Fit.{any, sound, fit}
 use Rattle.directory.specs.Calls.{register_refusal, put}
-use Rattle.directory.specs.Drop.{some_below, goes, gone, dropped}
+use Rattle.directory.specs.Drop.{some_below, goes, gone, dropped, pages_under}
 
 abbrev empty : List ℕ
 empty = replicate 256 0
@@ -41,8 +41,11 @@ edges =
       r12 = refl;
     }
 
--- K5: what a touched page drops
+-- K5: the pages under a block, and what a touched page drops
 record Pages : Type 0 where
+  pub p1 : pages_under 0x6000 1024 ≡ 0x1000000
+  pub p2 : pages_under 0x63FF 4096 ≡ 0x1F000000
+  pub p3 : pages_under 0xFFFF 1 ≡ 0x8000000000000000
   pub g1 : goes 0x2000000 0x63F8 16 ≡ true
   pub g2 : goes 0x2000000 0x6000 16 ≡ false
   pub g3 : goes 0x2000000 0x6000 1024 ≡ false
@@ -50,8 +53,8 @@ record Pages : Type 0 where
   pub g5 : goes 0xFF00000000 0xA000 1 ≡ false
 
 pages : Pages
-unfolding goes some_below under
-pages = record { g1 = refl; g2 = refl; g3 = refl; g4 = refl; g5 = refl }
+unfolding pages_under goes some_below under
+pages = record { p1 = refl; p2 = refl; p3 = refl; g1 = refl; g2 = refl; g3 = refl; g4 = refl; g5 = refl }
 
 -- a start held twice, places apart, and a place with a number and no start are unfit
 abbrev block : ℕ

@@ -1,5 +1,5 @@
 -- K5: which blocks go: those over a CPU page that was touched.
-use Rattle.std.specs.Prelude.{ℕ, zero, suc, Bool, false, cond, not, ◌&&◌, ◌||◌, List, [], ◌∷◌, ◌++◌}
+use Rattle.std.specs.Prelude.{ℕ, zero, suc, ◌+◌, ◌-◌, ◌*◌, ◌/◌, ◌^◌, Bool, false, cond, not, ◌&&◌, ◌||◌, List, [], ◌∷◌, ◌++◌}
 use Rattle.memory.specs.Page.{has_bit}
 use Rattle.directory.specs.Block.{start_of, len_of, free, under}
 
@@ -22,3 +22,13 @@ kept touched w = cond (gone touched w) 0 w
 unfoldable pub dropped : ℕ → List ℕ → List ℕ
 dropped touched [] = []
 dropped touched (w ∷ d) = cond (gone touched w) (dropped touched d ++ (0 ∷ [])) (w ∷ dropped touched d)
+
+-- the pages under a block as one number
+abbrev pub first_page : ℕ → ℕ
+first_page start = start / 1024
+
+abbrev pub page_count : ℕ → ℕ → ℕ
+page_count start len = (start + len - 1) / 1024 - start / 1024 + 1
+
+unfoldable pub pages_under : ℕ → ℕ → ℕ
+pages_under start len = (2 ^ page_count start len - 1) * 2 ^ first_page start

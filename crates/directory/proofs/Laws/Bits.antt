@@ -1,10 +1,11 @@
 -- The bits of an or, an and, a power, and of a run of ones; a number is not 0 where some bit is set. Assumes nothing.
-use Rattle.std.proofs.Common.{◌≡◌, ℕ, zero, suc, ◌+◌, ◌-◌, ◌*◌, ◌/◌, ◌%◌, ◌^◌, ◌<◌, ◌≤◌, min, max, Bool, not, ◌&&◌, ◌||◌, eqb, leb, refl, ap, ◌∙◌, lt_of_le_of_lt, mod-lt, one-mul, one-add, arith, pow_pos, shl_exact, shr_lt, eq-eqb, ne_eqb, le-leb}
+use Rattle.std.proofs.Common.{◌≡◌, ℕ, zero, suc, ◌+◌, ◌-◌, ◌*◌, ◌/◌, ◌%◌, ◌^◌, ◌<◌, ◌≤◌, min, max, Bool, not, ◌&&◌, ◌||◌, eqb, leb, refl, ap, ◌∙◌, lt_of_le_of_lt, lt_of_lt_of_le, mod-lt, mul_comm, mul-one, one-mul, pow-add, pow_mono, one-add, arith, pow_pos, shl_exact, shr_lt, eq-eqb, ne_eqb, le-leb}
 use native.Mathlib.Decide.{dec_le, ℕ_discrete}
-use lib.Bits.{bit_and, bit_or, or_add_and, and_le_l, and_le_r}
-use lib.Pow.{split}
+use lib.Bits.{bit_and, bit_or, and_comm, or_add_and, and_le_l, and_le_r}
+use lib.Pow.{split, ones_lt}
 use Rattle.std.specs.Int.{bit_at}
-use Rattle.std.proofs.lemmas.Nat.Bits.{bit_at-lt, bit_at_or, bit_at_and, bit_at-pow_same, bit_at-pow_other, bit_at_mask_inside, bit_at_mask_below, bit_at_ones, bit_at_ones_above, ones_shl, ones_shr}
+use Rattle.std.proofs.lemmas.Nat.Bits.{bit_at-lt, bit_at_or, bit_at_and, bit_at-pow_same, bit_at-pow_other, bit_at_mask_inside, bit_at_mask_below, bit_at_mask_above, bit_at_ones, bit_at_ones_above, and_high_mask, ones_shl, ones_shr}
+use Rattle.std.proofs.Math.Nat.{mul-sub}
 use Rattle.std.proofs.lemmas.Bool.{lt-leb}
 use Rattle.memory.specs.Page.{has_bit}
 use Rattle.directory.specs.Drop.{some_below}
@@ -33,6 +34,23 @@ bit-pow j b = by (ℕ_discrete j b)
     by (yes e) = rw (e, eq-eqb b b refl) (eq-eqb _ 1 (bit_at-pow_same b))
     by (no e) = rw (ne_eqb j b e) (ne_eqb _ 1 (λ z. omega (arith, bit_at-pow_other b j e)))
 
+-- ---- a run of ones
+
+-- c ones from place f on
+pub ones_run : (f c : ℕ) → (2 ^ c - 1) * 2 ^ f ≡ 2 ^ (c + f) - 2 ^ f
+ones_run f c = rw (pow-add 2 c f, mul_comm (2 ^ c - 1) (2 ^ f), mul-sub (2 ^ f) (2 ^ c) 1, mul-one (2 ^ f), mul_comm (2 ^ f) (2 ^ c)) refl
+
+-- the last of them at `last`
+pub bit-ones : (f c last k : ℕ) → f + c ≡ last + 1 → has_bit k ((2 ^ c - 1) * 2 ^ f) ≡ (leb f k && leb k last)
+bit-ones f c last k e = rw (ones_run f c) (by (dec_le f k) (dec_le k last))
+  where
+    by : Dec (f ≤ k) → Dec (k ≤ last) → has_bit k (2 ^ (c + f) - 2 ^ f) ≡ (leb f k && leb k last)
+    by (yes p) (yes q) = rw (le-leb f k p, le-leb k last q) (eq-eqb _ 1 (bit_at_mask_inside f (c + f) k p (omega (arith, e, q))))
+    by (yes p) (no q) =
+        rw (le-leb f k p, lt-leb k last (omega (arith, q)))
+        (ne_eqb _ 1 (λ z. omega (arith, bit_at_mask_above f (c + f) k (omega (arith, e, q)))))
+    by (no p) q = rw (lt-leb f k (omega (arith, p))) (ne_eqb _ 1 (λ z. omega (arith, bit_at_mask_below f (c + f) k (omega (arith, p)))))
+
 -- ---- the ones from place f to place l, as the code makes them
 
 high_ones : (f k : ℕ) → k < 64 → has_bit k (2 ^ 64 - 2 ^ f) ≡ leb f k
@@ -53,6 +71,26 @@ pub ones_between : (f l k : ℕ) → f < 64 → k < 64
     → has_bit k (bit_and ((2 ^ 64 - 1) * 2 ^ f % 2 ^ 64) ((2 ^ 64 - 1) / 2 ^ (63 - l))) ≡ (leb f k && leb k l)
 ones_between f l k a c =
     rw (ones_shl 64 f (omega arith), ones_shr 64 (63 - l) (omega arith), bit-and k (2 ^ 64 - 2 ^ f) (2 ^ (64 - (63 - l)) - 1), high_ones f k c, low_ones l k c)
+
+-- which are c of them
+pub ones_code : (f c l : ℕ) → f + c ≡ l + 1 → l < 64
+    → bit_and ((2 ^ 64 - 1) * 2 ^ f % 2 ^ 64) ((2 ^ 64 - 1) / 2 ^ (63 - l)) ≡ (2 ^ c - 1) * 2 ^ f
+ones_code f c l e h =
+    rw (
+      ones_shl 64 f (omega arith),
+      ones_shr 64 (63 - l) (omega arith),
+      last,
+      and_comm (2 ^ 64 - 2 ^ f) (2 ^ (c + f) - 1),
+      and_high_mask 64 f (omega arith) (2 ^ (c + f) - 1) (lt_of_lt_of_le (ones_lt (c + f)) (pow_mono {i = c + f} {j = 64} (omega arith))),
+      ones_shr (c + f) f (omega arith),
+      count,
+    )
+  where
+    last : 64 - (63 - l) ≡ c + f
+    last = omega (arith, e, h)
+
+    count : c + f - f ≡ c
+    count = omega arith
 
 -- ---- some bit is set
 

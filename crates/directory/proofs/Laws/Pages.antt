@@ -1,14 +1,15 @@
--- The pages under a block, as the bits of one number. Assumes nothing.
-use Rattle.std.proofs.Common.{◌≡◌, ℕ, zero, suc, ◌+◌, ◌-◌, ◌/◌, ◌%◌, ◌^◌, ◌<◌, ◌≤◌, Bool, true, false, not, ◌&&◌, eqb, leb, sym, refl, ap, ◌∙◌, div-one, arith, shr-shr, eq-eqb, ne_eqb, le-leb, leb-true}
+-- The pages under a block, as one number. Assumes nothing.
+use Rattle.std.proofs.Common.{◌≡◌, ℕ, zero, suc, ◌+◌, ◌-◌, ◌/◌, ◌%◌, ◌^◌, ◌<◌, ◌≤◌, Bool, true, false, not, ◌&&◌, eqb, leb, sym, refl, ap, ◌∙◌, lt_of_lt_of_le, shl_lt, pow_mono, div-one, arith, shr-shr, eq-eqb, ne_eqb, le-leb, leb-true}
 use native.Mathlib.Decide.{dec_le, ℕ_discrete}
 use native.Mathlib.Nat.{zero-div}
 use lib.Bits.{bit_and}
+use lib.Pow.{ones_lt}
 use Rattle.memory.specs.Page.{has_bit}
 use Rattle.std.proofs.lemmas.Bool.{lt-leb, and_parts}
 use Rattle.directory.specs.Block.{start_of, len_of, fits, free, under}
-use Rattle.directory.specs.Drop.{some_below, goes, gone}
+use Rattle.directory.specs.Drop.{some_below, goes, gone, page_count, pages_under}
 use Rattle.directory.specs.Eights.{seen_from}
-use Rattle.directory.proofs.Laws.Bits.{some-common, some_below-ext}
+use Rattle.directory.proofs.Laws.Bits.{bit-ones, some-common, some_below-ext}
 
 pub record Fits (start len : ℕ) : Type 0 where
   pub from : 0x6000 ≤ start
@@ -33,14 +34,33 @@ unfolding fits
 says-fits start len f =
     rw (le-leb 0x6000 start f.from, le-leb 1 len f.some, le-leb len 4096 f.most, le-leb (start + len) 0x10000 f.to)
 
+-- has_bit k of the mask is set exactly where CPU page k is under the block
+pub bit-pages : (start len : ℕ) → Fits start len → (k : ℕ) → has_bit k (pages_under start len) ≡ under start len k
+unfolding pages_under under
+bit-pages start len f k = bit-ones (start / 1024) (page_count start len) ((start + len - 1) / 1024) k (omega (arith, f))
+
+-- the mask has 64 bits
+pub pages-lt : (start len : ℕ) → Fits start len → pages_under start len < 2 ^ 64
+unfolding pages_under
+pages-lt start len f =
+    let n = page_count start len in
+    let a = start / 1024 in
+    lt_of_lt_of_le (shl_lt {a = 2 ^ n - 1} n a (ones_lt n)) (pow_mono {i = n + a} {j = 64} (omega (arith, f)))
+
 -- a block goes exactly where a number with its pages' bits and the touched pages have a bit in common
-pub goes-mask : (touched start len m : ℕ) → m < 2 ^ 64 → ((k : ℕ) → k < 64 → has_bit k m ≡ under start len k)
+pub goes-bits : (touched start len m : ℕ) → m < 2 ^ 64 → ((k : ℕ) → k < 64 → has_bit k m ≡ under start len k)
     → goes touched start len ≡ not (eqb (bit_and m touched) 0)
 unfolding goes
-goes-mask touched start len m h f =
+goes-bits touched start len m h f =
     sym (some-common 64 m touched h
     ∙ some_below-ext 64 (λ k. has_bit k m && has_bit k touched) (λ k. under start len k && has_bit k touched)
     (λ k l. ap (λ (b : Bool). b && has_bit k touched) (f k l)))
+
+-- and so for its mask
+pub goes-mask : (touched start len : ℕ) → Fits start len
+    → goes touched start len ≡ not (eqb (bit_and (pages_under start len) touched) 0)
+goes-mask touched start len f =
+    goes-bits touched start len (pages_under start len) (pages-lt start len f) (λ k h. bit-pages start len f k)
 
 -- ---- a block that cannot go: none of the five pages from its first is touched
 
