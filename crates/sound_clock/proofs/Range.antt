@@ -1,3 +1,3 @@
--- An update and a clock keep a state typed and in range, and no sample of a run is a NaN.
+-- An update, a clock and a run keep a state typed and in range, and no sample is a NaN.
 pub mod Clock
 pub mod Run

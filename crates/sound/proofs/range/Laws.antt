@@ -120,3 +120,6 @@ in-audio a h =
 
 pub owned : (a : Audio) (vs : List Val) → Is Row.the_row a vs → InRange a → Known a
 owned a vs is r = record { typed = typed a vs is; range = r }
+
+pub ok-known : (a : Audio) (vs : List Val) → Is Row.the_row a vs → audio_ok a ≡ true → Known a
+ok-known a vs is e = owned a vs is (audio-in a (typed a vs is) e)

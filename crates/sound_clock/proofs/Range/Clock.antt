@@ -77,6 +77,13 @@ update-range a l p r =
       mixed = value_out _ (out-value a l r.outputs);
     }
 
+pub update-known : (a : Audio) → Known a → Known (update_channel a)
+update-known a k =
+    record {
+      typed = update-typed a k.typed;
+      range = update-range a k.typed.outputs_length (phase-small a k.typed) k.range;
+    }
+
 updated-typed : (a : Audio) → Typed a → Typed (updated a)
 unfolding updated
 updated-typed a t = other-typed (update_channel a) _ refl refl refl refl (update-typed a t)

@@ -1,4 +1,4 @@
--- None of the samples of n clocks is a NaN.
+-- n clocks keep a state typed and in range, and none of their samples is a NaN.
 use Prim.Native.Nat.{ℕ, zero, suc, ◌+◌, ◌/◌, ◌<◌}
 use mathlib.Core.Path.{◌≡◌, refl}
 use mathlib.Core.Bool.{Bool, true, false, not}
@@ -9,10 +9,15 @@ use lib.Ieee.{nan, is_nan}
 use Rattle.sound.specs.declared.audio.Audio.{Audio}
 use Rattle.sound.specs.Range.{Known}
 use Rattle.sound_wave.proofs.Range.Mix.{output-number}
-use Rattle.sound_clock.specs.Clock.{update_channel, updated}
-use Rattle.sound_clock.specs.Run.{samples_of}
+use Rattle.sound_clock.specs.Clock.{update_channel, updated, sound_clock}
+use Rattle.sound_clock.specs.Run.{sound_run, samples_of}
 use Rattle.sound_clock.proofs.run.Laws.{outputs, length-outputs, samples-on, samples-off}
-use Rattle.sound_clock.proofs.Range.Clock.{update-value, updated-known}
+use Rattle.sound_clock.proofs.Range.Clock.{update-value, updated-known, clock-known}
+
+pub run-known : (n : ℕ) (a : Audio) → Known a → Known (sound_run n a)
+unfolding sound_run
+run-known zero a k = k
+run-known (suc n) a k = run-known n (sound_clock a) (clock-known a k)
 
 outputs-number : (n : ℕ) (a : Audio) → Known a → (i : ℕ) → i < n → T (not (is_nan (get_or (outputs n a) i nan)))
 unfolding outputs updated

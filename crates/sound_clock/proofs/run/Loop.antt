@@ -1,6 +1,6 @@
 -- The loop of `run`: what is made and what is still to make are the whole run, and the rest of the buffer is as it was.
 use Prim.Native.Nat.{ℕ, suc, ◌+◌, ◌-◌, ◌/◌, ◌%◌, ◌≤◌, ◌<◌}
-use mathlib.Core.Path.{◌≡◌, sym, ap, ◌∙◌, subst}
+use mathlib.Core.Path.{◌≡◌, refl, sym, ap, ◌∙◌, subst}
 use mathlib.Core.Bool.{false}
 use mathlib.Core.List.{List, [], ◌++◌, append_assoc, append-nil}
 use native.Mathlib.Omega.{arith}
@@ -72,6 +72,13 @@ pub record Going (s₀ : List Float) (count : ℕ) (a₀ : Audio) (c : ℕ) (s :
   pub state : updates (count - i) a ≡ updates count a₀
   pub made : take i s ++ outputs (count - i) a ≡ outputs count a₀
   pub rest : drop i s ≡ drop i s₀
+
+pub going-none : (s : List Float) (count : ℕ) (a : Audio) (c : ℕ) (sum : Float) → length a.channel_out ≡ 8 → InRange a → c ≡ channel_count a.ram
+    → sum ≡ sum_of a.channel_out c
+    → Going s count a c s a sum 0
+going-none s count a c sum w r e m =
+    let all : count - 0 ≡ count = omega arith in
+    record { within = omega arith; long = w; range = r; channels = e; summed = m; same = refl; state = rw all; made = rw all; rest = refl }
 
 module _ (s₀ : List Float) (count : ℕ) (a₀ : Audio) (c : ℕ) (s : List Float) (a : Audio) (sum : Float) (i : ℕ)
     (g : Going s₀ count a₀ c s a sum i) where
