@@ -27,7 +27,7 @@ use Rattle.refusals.specs.Refusal.{number_of}
 use Rattle.refusals.proofs.Numbers.{numbered}
 use Rattle.call_refusals.specs.declared.known.KnownState.{KnownState}
 use Rattle.call_refusals.specs.contracts.known.KnownState as Row
-use Rattle.call_refusals.specs.Refusals.{Check, first_of, unless_refused, state_check, arena_checks, cpu_checks, fill_checks}
+use Rattle.call_refusals.specs.Refusals.{Check, first_of, unless_refused, state_check, state_checks, arena_checks, cpu_checks, fill_checks}
 use Rattle.call_refusals.specs.Refusals.{battery_checks}
 
 -- ---- any list of checks
@@ -131,6 +131,9 @@ module _ (s : State) (len : ℕ) (last : Check) where
   last-passes z h = rw (first_more (arena_checks s len) (last ∷ []) (none-of-arena s len (sym z)), h)
 
 -- ---- what an accepted call knows
+
+pub state-good : (s : State) → first_of (state_checks s) ≡ 0 → in_range s ≡ true
+state-good s e = not-false (in_range s) (accepted-none (state_checks s) (search rules) e).0
 
 -- a memory in range and an arena of its layout's length
 pub record Arena (s : State) (len : ℕ) : Type 0 where
