@@ -4,7 +4,8 @@ ghost use Rattle.std.specs.Prelude.{◌≡◌, Some};
 ghost use Rattle.directory.specs.Calls.{register_refusal, registered, found_block};
 ghost use Rattle.refusals.specs.Refusal.{refusal_of, word_of};
 ghost use Rattle.host.specs.Host.{sizes_of, options_of};
-ghost use Rattle.host.specs.Blocks.{found_word, host_lookup, host_find, host_load_blocks, host_load_places, host_write_blocks, host_write_places};
+ghost use Rattle.host.specs.Blocks.{found_word, host_lookup, host_find, host_load_blocks, host_load_places};
+ghost use Rattle.host.specs.Blocks.{host_write_blocks, host_write_places};
 ghost use Rattle.host.specs.Blocks.{host_stored, host_stored_places};
 
 use crate::load::sizes_of;

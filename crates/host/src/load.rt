@@ -1,5 +1,5 @@
-// Loads into an image of either length (H10): what the C calls without a directory share. The one with a directory (blocks.rt) makes another
-// load between the same two steps.
+// Loads into an image of either length (H10): what the C calls without a directory share. The one with a directory (blocks.rt) makes
+// another load between the same two steps.
 ghost use Rattle.std.specs.Prelude.{◌≡◌};
 ghost use Rattle.bits.specs.Fields.{bit};
 ghost use Rattle.refusals.specs.Refusal.{refusal_of};

@@ -4,3 +4,4 @@ pub mod Decimal
 pub mod Out
 pub mod Hex
 pub mod Number
+pub mod Wide
