@@ -96,7 +96,7 @@ fn run_through(
     ensures samples_after { samples.new ≡ (run_on s.state image.old samples.old n).lent }
 {
     let ran = run_into(s, n, samples.len(), buf)?;
-    put_samples(buf, ran.made, samples);
+    put_samples(&buf[..ran.made], samples);
     put_image(image, ran.state);
     Ok(Word {
         bits: (ran.made as u64) * 256 + (ran.rise as u64) * 4_294_967_296,
