@@ -17,7 +17,7 @@ use Rattle.call_refusals.specs.Refusals.{first_of}
 use Rattle.image_write.specs.Image.{image_bytes, part, part_widths, joined, chip_widths}
 use Rattle.image_write.specs.Options.{room_for}
 use Rattle.image_write.specs.Sections.{chip_at, ram_at, out_at, phases_at}
-use Rattle.image_read.specs.declared.reading.Head.{Head}
+use Rattle.image_read.specs.declared.head.Head.{Head}
 use Rattle.image_read.specs.Reading.{cut_into, state_from, state_of, fields_ok, fields_of, options_of, body_in, byte_in, state_in}
 use Rattle.image_read.specs.Reading.{image_ok, refused_read, read_image, read_body}
 use Rattle.image_read.specs.Sections.{fields_at, head_parts, sound_at, memory_at, state_at}

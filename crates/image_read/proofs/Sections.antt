@@ -19,7 +19,7 @@ use Rattle.image_write.specs.Image.{image_bytes, part, joined, chip_widths, soun
 use Rattle.image_write.specs.Sections.{chip_at, ram_at, port_at, levels_at, out_at, phases_at, prg_pages_at, chr_pages_at, layout_at}
 use Rattle.image_write.proofs.Parts.{◌then◌, SameLengths, joined-append}
 use Rattle.image_write.proofs.Whole.{total-widths}
-use Rattle.image_read.specs.declared.reading.Head.{Head}
+use Rattle.image_read.specs.declared.head.Head.{Head}
 use Rattle.image_read.specs.Reading.{cut_into, fields_of}
 use Rattle.image_read.specs.Sections.{fields_at, head_parts}
 

@@ -8,7 +8,7 @@ use Rattle.board_chip.specs.declared.namco163.Namco163.{Namco163}
 use Rattle.board_state.specs.declared.State.{State}
 use Rattle.image_write.specs.Image.{image_bytes, part, chip_widths, sound_widths, memory_widths}
 use Rattle.image_write.specs.Sections.{ram_at, port_at, levels_at, out_at, phases_at, prg_pages_at, chr_pages_at, layout_at}
-use Rattle.image_read.specs.declared.reading.Head.{Head}
+use Rattle.image_read.specs.declared.head.Head.{Head}
 use Rattle.image_read.specs.Reading.{audio_from, chip_from, memory_from}
 
 -- the fields of widths ws in the k bytes from a place on
@@ -24,15 +24,6 @@ head_parts h =
     ∷ (unpack (replicate 6 8) h.chr_first ++ unpack (replicate 6 8) h.chr_last)
     ∷ unpack (part chip_widths 4) h.prg
     ∷ []
-
--- no word holds more than its bits
-pub record HeadFits (h : Head) : Type 0 where
-  pub regs : h.regs < 2 ^ 53
-  pub detection : h.detection < 2 ^ 5
-  pub flags : h.flags < 2 ^ 12
-  pub first : h.chr_first < 2 ^ 48
-  pub last : h.chr_last < 2 ^ 48
-  pub prg : h.prg < 2 ^ 18
 
 -- the board, of its words
 abbrev pub chip_of : Head → Audio → Namco163

@@ -5,8 +5,9 @@ ghost use Rattle.sound.specs.Levels.{whole};
 ghost use Rattle.image_write.specs.Image.{image_bytes, chip_widths, joined};
 ghost use Rattle.image_write.specs.Sections.{chip_at, ram_at, port_at, levels_at, out_at, phases_at, prg_pages_at};
 ghost use Rattle.image_read.specs.Reading.{read_answer, read_image, read_body};
-ghost use Rattle.image_read.specs.Sections.{fields_at, head_parts, HeadFits, chip_of, sound_at, memory_at, state_at};
+ghost use Rattle.image_read.specs.Sections.{fields_at, head_parts, chip_of, sound_at, memory_at, state_at};
 
+use crate::head::Head;
 use crate::pages::get_pages;
 use crate::words::{
     board_numbered, chr_banks_of, flags_of, mirroring_numbered, prg_banks_of, regs_of,
@@ -27,20 +28,9 @@ use memory::page::Page;
 use refusals::Refusal;
 use sound::audio::Audio;
 
-// The board's fields as the words that hold them.
-#[derive(Clone, Copy)]
-pub struct Head {
-    pub regs: u64,
-    pub detection: u64,
-    pub flags: u64,
-    pub chr_first: u64,
-    pub chr_last: u64,
-    pub prg: u64,
-}
-
 // The board's words, one behind the other.
 fn read_head(img: &[u8; IMAGE_BYTES]) -> Head
-    ensures { (fields_at (joined chip_widths) img.now chip_at (ram_at - chip_at) ≡ joined (head_parts result)) × HeadFits result }
+    ensures { fields_at (joined chip_widths) img.now chip_at (ram_at - chip_at) ≡ joined (head_parts result) }
 {
     let mut c = Cursor::at_byte(CHIP_AT);
     let regs = c.get(img, 53);
@@ -60,7 +50,6 @@ fn read_head(img: &[u8; IMAGE_BYTES]) -> Head
 }
 
 fn chip_of(h: Head, audio: Audio) -> Namco163
-    requires { HeadFits h }
     ensures { result ≡ chip_of h audio }
 {
     Namco163 {
@@ -155,7 +144,7 @@ fn read_memory(img: &[u8; IMAGE_BYTES]) -> Memory
 
 // The state of IMAGE_BYTES bytes, given the board's words, the bits of `out` and the option.
 fn read_fields(img: &[u8; IMAGE_BYTES], h: Head, bits: u32, f800_protects: bool) -> State
-    requires { HeadFits h × (bits ≤ out_most) }
+    requires { bits ≤ out_most }
     ensures { result ≡ state_at img.now h bits f800_protects }
 {
     State {

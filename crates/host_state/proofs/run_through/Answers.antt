@@ -47,8 +47,10 @@ put_samples-requires c =
     let k = known-state a.s _ c.well_formed.0 in
     let end = ended a.s.state a.n a.samples.now _ ran.ran c.run_into.new.buf ran.ensures k in
     record {
-      room = ?;
-      by_index = ?;
+      room = omega (arith, ap length end.first, ap (λ (x : Ran). x.made) end.is, end.lent);
+      by_index = λ j h.
+          rw (ap (λ (l : List Float). get_or l j nan) end.first)
+          (samples-numbers a.s.state a.n k j (subst (λ (x : ℕ). j < x) (ap length end.first) h));
     }
 
 pub put_image-requires : goal.put_image-requires
@@ -89,7 +91,6 @@ returns c =
       value = ap (λ (x : Ran). x.made * 256 + x.rise * 4294967296) end.is ∙ word_of e;
       image_after = c.put_image.ensures ∙ ap (λ (x : Ran). image_at (length a.image.now) x.state) end.is ∙ image-of e;
       samples_after = c.put_samples.ensures
-          ∙ ap (λ (x : List Float). each sample_bytes x ++ drop (4 * ran.ran.made) a.samples.now) end.first
-          ∙ ap (λ (x : Ran). each sample_bytes w ++ drop (4 * x.made) a.samples.now) end.is
+          ∙ ap (λ (x : List Float). each sample_bytes x ++ drop (4 * length x) a.samples.now) end.first
           ∙ lent_of e;
     }

@@ -17,7 +17,7 @@ use Rattle.bits.specs.Words.{word_of}
 use Rattle.memory.specs.Range.{Bytes}
 use Rattle.image_write.specs.Image.{image_bytes, joined, chip_widths}
 use Rattle.image_write.specs.Sections.{chip_at, ram_at, out_at}
-use Rattle.image_read.specs.declared.reading.Head.{Head}
+use Rattle.image_read.specs.declared.head.Head.{Head}
 use Rattle.image_read.specs.Sections.{fields_at, head_parts}
 use Rattle.image_read.proofs.Accepted.{Opened, refused-unused, refused-out, refused-mirroring, refused-range, accepted-state}
 use Rattle.image_read.proofs.reading.read_body.Goals as goal
@@ -33,12 +33,12 @@ opened img h bits l f e w s = record { long = l; bytes = f; head = e; out = omeg
 
 pub returns-then-bits : goal.returns-then-bits
 returns-then-bits c =
-    let o = opened _ _ _ c.told-img c.fits-img c.read_head-h.ensures.0 c.load-bits.ensures.value c.load-bits.ensures.upper_bound in
+    let o = opened _ c.read_head-h.result _ c.told-img c.fits-img c.read_head-h.ensures c.load-bits.ensures.value c.load-bits.ensures.upper_bound in
     sym (refused-out _ _ c.ranges.options.fits c.if-options-ne0.false _ _ o c.if-bits.true)
 
 pub returns-then-h-gt4 : goal.returns-then-h-gt4
 returns-then-h-gt4 c =
-    let o = opened _ _ _ c.told-img c.fits-img c.read_head-h.ensures.0 c.load-bits.ensures.value c.load-bits.ensures.upper_bound in
+    let o = opened _ c.read_head-h.result _ c.told-img c.fits-img c.read_head-h.ensures c.load-bits.ensures.value c.load-bits.ensures.upper_bound in
     sym (refused-mirroring _ _ c.ranges.options.fits c.if-options-ne0.false _ _ o c.if-h-gt4.true)
 
 -- by whether the state passes
@@ -50,7 +50,7 @@ told (Err q) s w e passes fails = rw e.0 (fails e.1)
 
 pub returns : goal.returns
 returns c =
-    let o = opened _ _ _ c.told-img c.fits-img c.read_head-h.ensures.0 c.load-bits.ensures.value c.load-bits.ensures.upper_bound in
+    let o = opened _ c.read_head-h.result _ c.told-img c.fits-img c.read_head-h.ensures c.load-bits.ensures.value c.load-bits.ensures.upper_bound in
     told c.new.result c.read_fields.result _ c.new.ensures
     (λ i. let ok = rw c.read_fields.ensures at i in
     rw c.read_fields.ensures (sym (accepted-state _ _ c.ranges.options.fits c.if-options-ne0.false _ _ o c.if-h-gt4.false ok)))

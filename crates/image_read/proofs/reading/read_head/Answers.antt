@@ -69,15 +69,13 @@ returns c =
     let p4 = c.get-chr_first.ensures in
     let p5 = c.get-chr_last.ensures in
     let p6 = c.get-prg.ensures in
-    let six : List ℕ = replicate 6 8 in (
-      section-is img chip_at (ram_at - chip_at) (omega (arith, c.told-img)) c.get-prg.new.self (joined chip_widths) _ chip-bits
-          (read-part img _ _ _ (part chip_widths 0) _ _ _ (read_word img _ _ (part chip_widths 0) _ p1)
-          (read-part img _ _ _ (part chip_widths 1) _ _ _ (read_word img _ _ (part chip_widths 1) _ p2)
-          (read-part img _ _ _ (part chip_widths 2) _ _ _ (read_word img _ _ (part chip_widths 2) _ p3)
-          (read-part img _ _ _ (part chip_widths 3) _ _ _
-          (read-append img _ _ _ six (unpack six c.get-chr_first.result) six (unpack six c.get-chr_last.result)
-          (read_word img _ _ six _ p4) (read_word img _ _ six _ p5))
-          (read-part img _ _ _ (part chip_widths 4) _ [] [] (read_word img _ _ (part chip_widths 4) _ p6)
-          (read-end img _ p6.behind)))))),
-      record { regs = p1.fit.0; detection = p2.fit.0; flags = p3.fit.0; first = p4.fit.0; last = p5.fit.0; prg = p6.fit.0 },
-    )
+    let six : List ℕ = replicate 6 8 in
+    section-is img chip_at (ram_at - chip_at) (omega (arith, c.told-img)) c.get-prg.new.self (joined chip_widths) _ chip-bits
+    (read-part img _ _ _ (part chip_widths 0) _ _ _ (read_word img _ _ (part chip_widths 0) _ p1)
+    (read-part img _ _ _ (part chip_widths 1) _ _ _ (read_word img _ _ (part chip_widths 1) _ p2)
+    (read-part img _ _ _ (part chip_widths 2) _ _ _ (read_word img _ _ (part chip_widths 2) _ p3)
+    (read-part img _ _ _ (part chip_widths 3) _ _ _
+    (read-append img _ _ _ six (unpack six c.get-chr_first.result) six (unpack six c.get-chr_last.result)
+    (read_word img _ _ six _ p4) (read_word img _ _ six _ p5))
+    (read-part img _ _ _ (part chip_widths 4) _ [] [] (read_word img _ _ (part chip_widths 4) _ p6)
+    (read-end img _ p6.behind))))))
