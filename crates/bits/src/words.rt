@@ -17,11 +17,7 @@ pub fn store(img: &mut [u8], at: usize, k: usize, x: u64)
     requires { (k ≤ 8) × (at + k ≤ length img.old) }
     ensures { img.new ≡ paste img.old at (bytes_of k x) k }
 {
-    for j in 0..k {
-        let s = (k - 1 - j) * 8;
-        let b = x >> s;
-        img[at + j] = (b % 256) as u8;
-    }
+    copy_to(img, at, &x.to_be_bytes()[8 - k..]);
 }
 
 // The number acc with k bytes behind it.

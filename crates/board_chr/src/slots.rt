@@ -17,7 +17,8 @@ fn sets_ciram(chip: Namco163, addr: u16, val: u8) -> bool
     val >= 0xE0 && chip.board.is_163() && selected
 }
 
-// 8000..BFFF on every board, and C000..DFFF on a 163: the flag and the bank of a slot. Other addresses have no slot.
+// 8000..BFFF on every board, and C000..DFFF on a 163: the flag and the bank of a slot. An address below 8000 counts
+// as 8000, and from E000 on there is no slot; the callers have neither.
 #[tactic(auto, unfolding(crate::specs::Slots::write_slot))]
 pub fn write_slot(mut chip: Namco163, addr: u16, val: u8) -> Namco163
     ensures { result ≡ write_slot chip addr val }

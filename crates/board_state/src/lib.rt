@@ -11,7 +11,7 @@ use memory::Memory;
 use memory::range::memory_ok;
 use sound::range::audio_ok;
 
-pub mod none; // none.rt: the state of a refused load
+pub mod none; // none.rt: a state that no call accepts
 
 // What a load may choose (L19): in the edition where F800 protects, work RAM of a 163 takes stores as F800 says.
 #[derive(Clone, Copy)]

@@ -1,4 +1,5 @@
-// The state of a refused load or image: one that no call accepts. Each field is named, since a derived default says less.
+// The state that N21 has for a refused load or image: one that no call accepts. No call gives it, since a refused one gives its `Refusal`
+// alone. Each field is named, since a derived default says less.
 ghost use Rattle.std.specs.Prelude.{◌≡◌};
 ghost use Rattle.board_state.specs.None.{no_state};
 

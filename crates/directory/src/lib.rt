@@ -32,7 +32,8 @@ fn checked(d: &[u64], start: u16) -> Result<(), Refusal>
     Ok(())
 }
 
-// K3: registers a block. Refused where the directory is unfit, the start is below 4800, the block cannot be registered, or no place is free.
+// K3: registers a block. Refused where the directory is unfit, the start is below 4800, the block cannot be registered, or no place is
+// free.
 pub fn register(d: &mut [u64], start: u16, len: u64, number: u32) -> Result<(), Refusal>
     ensures value { refusal_of result ≡ register_refusal d.old start len }
     ensures d_after { d.new ≡ registered d.old start len number }

@@ -2,9 +2,10 @@
 // block is held.
 ghost use Rattle.std.specs.Prelude.{◌≡◌, Some};
 ghost use Rattle.directory.specs.Calls.{register_refusal, registered, found_block};
-ghost use Rattle.refusals.specs.Refusal.{word_of};
+ghost use Rattle.refusals.specs.Refusal.{refusal_of, word_of};
 ghost use Rattle.host.specs.Host.{sizes_of, options_of};
-ghost use Rattle.host.specs.Blocks.{found_word, host_lookup, host_find, host_load_blocks, host_load_places, host_write_blocks, host_write_places};
+ghost use Rattle.host.specs.Blocks.{found_word, host_lookup, host_find, host_load_blocks, host_load_places};
+ghost use Rattle.host.specs.Blocks.{host_write_blocks, host_write_places};
 ghost use Rattle.host.specs.Blocks.{host_stored, host_stored_places};
 
 use crate::load::sizes_of;
@@ -17,35 +18,37 @@ use host_blocks::{stored_on, write_blocks_on};
 use image_read::reading::read_image;
 use image_write::writing::{put_image, room_for};
 use refusals::Refusal;
+use refusals::word::Word;
 
 // The length in bits 8..31 and the number in bits 32..63.
-fn found_word(block: Block) -> u64
-    ensures { result ≡ found_word (found_block (Some block)) }
+fn found_word(block: Block) -> Word
+    ensures { result.bits ≡ found_word (found_block (Some block)) }
 {
-    block.len as u64 * 256 + block.number as u64 * 4_294_967_296
+    Word {
+        bits: block.len as u64 * 256 + block.number as u64 * 4_294_967_296,
+    }
 }
 
-// Registers a block (K3). The word is the refusal number alone.
+// Registers a block (K3).
 pub fn namco163_register(
     directory: &mut [u64],
     start: u16,
     length: u64,
     number: u32,
-) -> Result<u64, Refusal>
-    ensures value { word_of result ≡ register_refusal directory.old start length }
+) -> Result<(), Refusal>
+    ensures value { refusal_of result ≡ register_refusal directory.old start length }
     ensures directory_after { directory.new ≡ registered directory.old start length number }
 {
-    register(directory, start, length, number)?;
-    Ok(0)
+    register(directory, start, length, number)
 }
 
 // The block held at a start (K4): its length in bits 8..31, its number in bits 32..63; 0 for none.
-pub fn namco163_lookup(directory: &[u64], start: u16) -> Result<u64, Refusal>
+pub fn namco163_lookup(directory: &[u64], start: u16) -> Result<Word, Refusal>
     ensures { word_of result ≡ host_lookup directory.now start }
 {
     match lookup(directory, start)? {
         Some(block) => Ok(found_word(block)),
-        None => Ok(0),
+        None => Ok(Word { bits: 0 }),
     }
 }
 
@@ -54,7 +57,7 @@ pub fn namco163_lookup(directory: &[u64], start: u16) -> Result<u64, Refusal>
 pub fn namco163_find(directory: &[u64], start: u16) -> u64
     ensures { result ≡ host_find directory.now start }
 {
-    found_word(Block::of_word(find(directory, start)))
+    found_word(Block::of_word(find(directory, start))).bits
 }
 
 // A load with options that empties the directory too (K7). It reads neither image nor places.
@@ -73,8 +76,8 @@ pub fn namco163_load_blocks(
     chr_ram: u64,
     ciram: u64,
     f800_protects: u64,
-) -> Result<u64, Refusal>
-    ensures value { word_of result ≡ (host_load_blocks image.old arena.old directory.old mapper submapper flags
+) -> Result<(), Refusal>
+    ensures value { refusal_of result ≡ (host_load_blocks image.old arena.old directory.old mapper submapper flags
         in_database (sizes_of prg_rom prg_ram battery chr chr_ram ciram) (options_of f800_protects)).word }
     ensures image_after { image.new ≡ (host_load_blocks image.old arena.old directory.old mapper
         submapper flags in_database (sizes_of prg_rom prg_ram battery chr chr_ram ciram) (options_of f800_protects)).image }
@@ -98,7 +101,7 @@ pub fn namco163_load_blocks(
     };
     let fresh = load(directory, arena, cartridge)?;
     put_image(image, fresh);
-    Ok(0)
+    Ok(())
 }
 
 // A CPU write, which drops the blocks over the pages that it touches (K5). Word, image and arena are namco163_write's.
@@ -108,7 +111,7 @@ pub fn namco163_write_blocks(
     directory: &mut [u64],
     addr: u16,
     val: u8,
-) -> Result<u64, Refusal>
+) -> Result<Word, Refusal>
     ensures value { word_of result ≡ (host_write_blocks image.old arena.old directory.old addr val).word }
     ensures image_after { image.new
         ≡ (host_write_blocks image.old arena.old directory.old addr val).image }
@@ -121,11 +124,10 @@ pub fn namco163_write_blocks(
 }
 
 // After a store of the host's own into the arena: the blocks over the pages that show the byte's arena page go (K5).
-pub fn namco163_stored(image: &[u8], directory: &mut [u64], offset: u64) -> Result<u64, Refusal>
-    ensures value { word_of result ≡ host_stored image.now directory.old }
+pub fn namco163_stored(image: &[u8], directory: &mut [u64], offset: u64) -> Result<(), Refusal>
+    ensures value { refusal_of result ≡ host_stored image.now directory.old }
     ensures directory_after { directory.new ≡ host_stored_places image.now directory.old offset }
 {
     let read = read_image(image)?;
-    stored_on(directory, read, offset)?;
-    Ok(0)
+    stored_on(directory, read, offset)
 }

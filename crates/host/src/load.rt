@@ -1,8 +1,8 @@
-// Loads into an image of either length (H10): what the C calls without a directory share. The one with a directory (blocks.rt) makes another
-// load between the same two steps.
+// Loads into an image of either length (H10): what the C calls without a directory share. The one with a directory (blocks.rt) makes
+// another load between the same two steps.
 ghost use Rattle.std.specs.Prelude.{◌≡◌};
 ghost use Rattle.bits.specs.Fields.{bit};
-ghost use Rattle.refusals.specs.Refusal.{word_of};
+ghost use Rattle.refusals.specs.Refusal.{refusal_of};
 ghost use Rattle.host.specs.Host.{sizes_of, host_load};
 
 use call_load::{Cartridge, load};
@@ -30,8 +30,8 @@ pub fn sizes_of(
     }
 }
 
-pub fn load_image(image: &mut [u8], arena: &mut [u8], cartridge: Cartridge) -> Result<u64, Refusal>
-    ensures value { word_of result ≡ (host_load image.old arena.old cartridge.mapper cartridge.submapper cartridge.flags
+pub fn load_image(image: &mut [u8], arena: &mut [u8], cartridge: Cartridge) -> Result<(), Refusal>
+    ensures value { refusal_of result ≡ (host_load image.old arena.old cartridge.mapper cartridge.submapper cartridge.flags
         (bit cartridge.known) cartridge.sizes cartridge.options).word }
     ensures image_after { image.new ≡ (host_load image.old arena.old cartridge.mapper cartridge.submapper cartridge.flags
         (bit cartridge.known) cartridge.sizes cartridge.options).image }
@@ -43,5 +43,5 @@ pub fn load_image(image: &mut [u8], arena: &mut [u8], cartridge: Cartridge) -> R
     }
     let fresh = load(arena, cartridge)?;
     put_image(image, fresh);
-    Ok(0)
+    Ok(())
 }

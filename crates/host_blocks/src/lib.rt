@@ -19,6 +19,7 @@ use host_state::changes_word;
 use image_write::writing::put_image;
 use memory::Memory;
 use refusals::Refusal;
+use refusals::word::Word;
 
 // A CPU write on a state, and the image of the state after it. The blocks over the pages that it touches go.
 pub fn write_blocks_on(
@@ -28,7 +29,7 @@ pub fn write_blocks_on(
     addr: u16,
     val: u8,
     image: &mut [u8],
-) -> Result<u64, Refusal>
+) -> Result<Word, Refusal>
     requires { room_for (option_set s.state) (length image.old) ≡ true }
     ensures value { word_of result ≡ (write_blocks_on d.old s.state image.old arena.old addr val).word }
     ensures image_after { image.new

@@ -5,7 +5,7 @@ ghost use Rattle.host.specs.Host.{sizes_of, options_of};
 ghost use Rattle.host.specs.Blocks.{host_lookup, host_find, host_load_blocks, host_load_places, host_write_blocks, host_write_places};
 ghost use Rattle.host.specs.Blocks.{host_stored, host_stored_places};
 
-use refusals::word;
+use refusals::{refusal_of, word_of};
 
 #[unsafe(no_mangle)]
 pub extern "C" fn namco163_register(
@@ -17,14 +17,14 @@ pub extern "C" fn namco163_register(
     ensures value { result ≡ register_refusal directory.old start length }
     ensures directory_after { directory.new ≡ registered directory.old start length number }
 {
-    word(host::blocks::namco163_register(directory, start, length, number))
+    u64::from(refusal_of(&host::blocks::namco163_register(directory, start, length, number)))
 }
 
 #[unsafe(no_mangle)]
 pub extern "C" fn namco163_lookup(directory: &[u64], start: u16) -> u64
     ensures { result ≡ host_lookup directory.now start }
 {
-    word(host::blocks::namco163_lookup(directory, start))
+    word_of(host::blocks::namco163_lookup(directory, start))
 }
 
 #[unsafe(no_mangle)]
@@ -60,7 +60,7 @@ pub extern "C" fn namco163_load_blocks(
     ensures directory_after { directory.new ≡ host_load_places image.old arena.old directory.old mapper
         (sizes_of prg_rom prg_ram battery chr chr_ram ciram) (options_of f800_protects) }
 {
-    word(host::blocks::namco163_load_blocks(
+    u64::from(refusal_of(&host::blocks::namco163_load_blocks(
         image,
         arena,
         directory,
@@ -75,7 +75,7 @@ pub extern "C" fn namco163_load_blocks(
         chr_ram,
         ciram,
         f800_protects,
-    ))
+    )))
 }
 
 #[unsafe(no_mangle)]
@@ -93,7 +93,7 @@ pub extern "C" fn namco163_write_blocks(
         ≡ (host_write_blocks image.old arena.old directory.old addr val).lent }
     ensures directory_after { directory.new ≡ host_write_places image.old arena.old directory.old addr val }
 {
-    word(host::blocks::namco163_write_blocks(image, arena, directory, addr, val))
+    word_of(host::blocks::namco163_write_blocks(image, arena, directory, addr, val))
 }
 
 #[unsafe(no_mangle)]
@@ -101,5 +101,5 @@ pub extern "C" fn namco163_stored(image: &[u8], directory: &mut [u64], offset: u
     ensures value { result ≡ host_stored image.now directory.old }
     ensures directory_after { directory.new ≡ host_stored_places image.now directory.old offset }
 {
-    word(host::blocks::namco163_stored(image, directory, offset))
+    u64::from(refusal_of(&host::blocks::namco163_stored(image, directory, offset)))
 }

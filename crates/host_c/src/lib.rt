@@ -8,7 +8,7 @@ ghost use Rattle.std.specs.Prelude.{◌≡◌};
 ghost use Rattle.board_state.specs.State.{no_options};
 ghost use Rattle.host.specs.Host.{sizes_of, options_of, host_load, host_reset, host_read, host_write, host_run};
 
-use refusals::word;
+use refusals::{refusal_of, word_of};
 
 #[unsafe(no_mangle)]
 pub extern "C" fn namco163_load(
@@ -32,7 +32,7 @@ pub extern "C" fn namco163_load(
     ensures arena_after { arena.new ≡ (host_load image.old arena.old mapper submapper flags in_database
         (sizes_of prg_rom prg_ram battery chr chr_ram ciram) no_options).lent }
 {
-    word(host::namco163_load(
+    u64::from(refusal_of(&host::namco163_load(
         image,
         arena,
         mapper,
@@ -45,7 +45,7 @@ pub extern "C" fn namco163_load(
         chr,
         chr_ram,
         ciram,
-    ))
+    )))
 }
 
 #[unsafe(no_mangle)]
@@ -71,7 +71,7 @@ pub extern "C" fn namco163_load_options(
     ensures arena_after { arena.new ≡ (host_load image.old arena.old mapper submapper flags in_database
         (sizes_of prg_rom prg_ram battery chr chr_ram ciram) (options_of f800_protects)).lent }
 {
-    word(host::namco163_load_options(
+    u64::from(refusal_of(&host::namco163_load_options(
         image,
         arena,
         mapper,
@@ -85,7 +85,7 @@ pub extern "C" fn namco163_load_options(
         chr_ram,
         ciram,
         f800_protects,
-    ))
+    )))
 }
 
 #[unsafe(no_mangle)]
@@ -93,7 +93,7 @@ pub extern "C" fn namco163_reset(image: &mut [u8], kind: u64) -> u64
     ensures value { result ≡ (host_reset image.old kind).word }
     ensures image_after { image.new ≡ (host_reset image.old kind).image }
 {
-    word(host::namco163_reset(image, kind))
+    u64::from(refusal_of(&host::namco163_reset(image, kind)))
 }
 
 #[unsafe(no_mangle)]
@@ -101,7 +101,7 @@ pub extern "C" fn namco163_read(image: &mut [u8], arena: &[u8], addr: u16) -> u6
     ensures value { result ≡ (host_read image.old arena.now addr).word }
     ensures image_after { image.new ≡ (host_read image.old arena.now addr).image }
 {
-    word(host::namco163_read(image, arena, addr))
+    word_of(host::namco163_read(image, arena, addr))
 }
 
 #[unsafe(no_mangle)]
@@ -110,14 +110,14 @@ pub extern "C" fn namco163_write(image: &mut [u8], arena: &mut [u8], addr: u16, 
     ensures image_after { image.new ≡ (host_write image.old arena.old addr val).image }
     ensures arena_after { arena.new ≡ (host_write image.old arena.old addr val).lent }
 {
-    word(host::namco163_write(image, arena, addr, val))
+    word_of(host::namco163_write(image, arena, addr, val))
 }
 
 #[unsafe(no_mangle)]
 pub extern "C" fn namco163_preview(image: &[u8], arena: &[u8], addr: u16, val: u8) -> u64
     ensures { result ≡ (host_write image.now arena.now addr val).word }
 {
-    word(host::namco163_preview(image, arena, addr, val))
+    word_of(host::namco163_preview(image, arena, addr, val))
 }
 
 #[unsafe(no_mangle)]
@@ -126,5 +126,5 @@ pub extern "C" fn namco163_run(image: &mut [u8], samples: &mut [u8], clocks: u64
     ensures image_after { image.new ≡ (host_run image.old samples.old clocks).image }
     ensures samples_after { samples.new ≡ (host_run image.old samples.old clocks).lent }
 {
-    word(host::namco163_run(image, samples, clocks))
+    word_of(host::namco163_run(image, samples, clocks))
 }

@@ -9,8 +9,9 @@ use call_preview::preview_known;
 use call_refusals::known::KnownState;
 use host_state::changes_word;
 use refusals::Refusal;
+use refusals::word::Word;
 
-pub fn preview_on(s: KnownState, arena: &[u8], addr: u16, val: u8) -> Result<u64, Refusal>
+pub fn preview_on(s: KnownState, arena: &[u8], addr: u16, val: u8) -> Result<Word, Refusal>
     ensures { word_of result ≡ (write_on s.state [] arena.now addr val).word }
 {
     Ok(changes_word(preview_known(s, arena, addr, val)?))

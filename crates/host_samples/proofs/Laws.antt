@@ -10,7 +10,7 @@ use borrow.Author.Tests.{le-ltb, ltb-true, ltb-false}
 use lib.Dec.{T, ltb}
 use lib.Ieee.{Float, nan, binary32, to_bits, is_nan}
 use lib.ListN.{length, take, drop, get_or, length-append, length-drop, take-append-drop}
-use lib.Seq.{sets, sets-eq, take_at, drop-append-add, drop-append-le, drop-drop, length-take-le, take-suc}
+use lib.Seq.{sets, sets-eq, take_at, drop-append-add, drop-append-le, drop-drop, length-take-le, take-length, take-suc}
 use Rattle.bits.specs.Fields.{total, unpack, each}
 use Rattle.bits.specs.Words.{bytes_of}
 use Rattle.bits.proofs.Fields.{each_snoc}
@@ -71,6 +71,10 @@ put-more xs l j h r =
     ∙ ap (λ (x : List ℕ). x ++ vs ++ drop (4 * j + length vs) (done ++ old)) (take_at done old (4 * j) n)
     ∙ ap (λ (x : List ℕ). x ++ drop (4 * j + length vs) (done ++ old)) first
     ∙ ap (λ (x : List ℕ). each sample_bytes (take (j + 1) xs) ++ x) rest
+
+pub put-all : (xs : List Float) (l : List ℕ) (j : ℕ) → j ≡ length xs
+    → each sample_bytes (take j xs) ++ drop (4 * j) l ≡ each sample_bytes xs ++ drop (4 * length xs) l
+put-all xs l j e = rw e (ap (λ (ys : List Float). each sample_bytes ys ++ drop (4 * length xs) l) (take-length xs))
 
 -- ---- a run's room: more than a buffer that holds the run changes nothing
 

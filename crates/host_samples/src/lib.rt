@@ -21,14 +21,14 @@ fn put_sample(bytes: &mut [u8], at: usize, x: f32)
     bytes[at..at + 4].copy_from_slice(&x.to_bits().to_be_bytes());
 }
 
-// The first k samples over the start of the bytes.
-pub fn put_samples(samples: &[f32], k: usize, bytes: &mut [u8])
-    requires k_in_bounds { (k ≤ length samples.now) × (4 * k ≤ length bytes.old) }
-    requires by_index { (j : ℕ) → j < k → T (not (is_nan (get_or samples.now j nan))) }
-    ensures { bytes.new ≡ each sample_bytes (take k samples.now) ++ drop (4 * k) bytes.old }
+// The samples over the start of the bytes.
+pub fn put_samples(samples: &[f32], bytes: &mut [u8])
+    requires room { 4 * length samples.now ≤ length bytes.old }
+    requires by_index { (j : ℕ) → j < length samples.now → T (not (is_nan (get_or samples.now j nan))) }
+    ensures { bytes.new ≡ each sample_bytes samples.now ++ drop (4 * length samples.now) bytes.old }
 {
-    for j in 0..k {
-        put_sample(bytes, 4 * j, samples[j]);
+    for (j, x) in samples.iter().enumerate() {
+        put_sample(bytes, 4 * j, *x);
     }
 }
 

@@ -4,7 +4,7 @@
 
 ghost use Rattle.std.specs.Prelude.{◌+◌, ◌*◌, ◌%◌, ◌^◌, ◌≤◌, ◌≡◌, true, length};
 ghost use Rattle.board_state.specs.State.{Known};
-ghost use Rattle.refusals.specs.Refusal.{word_of};
+ghost use Rattle.refusals.specs.Refusal.{refusal_of, word_of};
 ghost use Rattle.image_write.specs.Options.{image_at, option_set, room_for};
 ghost use Rattle.host_samples.specs.Samples.{HoldsRun};
 ghost use Rattle.host_state.specs.HostState.{reset_on, read_on, write_on, run_on};
@@ -18,6 +18,7 @@ use host_samples::{put_samples, run_into};
 use image_write::writing::put_image;
 use memory::changes::Changed;
 use refusals::Refusal;
+use refusals::word::Word;
 
 // The most clocks of a short run.
 const SHORT_RUN: u64 = 1_920;
@@ -26,32 +27,36 @@ const SHORT_RUN: u64 = 1_920;
 const SHORT_SAMPLES: usize = 128;
 
 // H6: the CHR mask in bits 8..23, and the PRG mask where its own bits stand.
-pub fn changes_word(changed: Changed) -> u64
+pub fn changes_word(changed: Changed) -> Word
     requires { changed.prg.mask % 2 ^ 24 ≡ 0 }
-    ensures { result ≡ changed.chr.mask * 2 ^ 8 + changed.prg.mask }
+    ensures { result.bits ≡ changed.chr.mask * 2 ^ 8 + changed.prg.mask }
 {
-    (changed.chr.mask as u64) * 256 + changed.prg.mask
+    Word {
+        bits: (changed.chr.mask as u64) * 256 + changed.prg.mask,
+    }
 }
 
 // A reset of a state, and its image.
-pub fn reset_on(s: State, kind: u64, image: &mut [u8]) -> Result<u64, Refusal>
+pub fn reset_on(s: State, kind: u64, image: &mut [u8]) -> Result<(), Refusal>
     requires { room_for (option_set s) (length image.old) ≡ true }
-    ensures value { word_of result ≡ (reset_on s image.old kind).word }
+    ensures value { refusal_of result ≡ (reset_on s image.old kind).word }
     ensures image_after { image.new ≡ (reset_on s image.old kind).image }
 {
     let after = reset(s, kind)?;
     put_image(image, after);
-    Ok(0)
+    Ok(())
 }
 
 // A CPU read on the image's state, and the image of the state after it. Only the sound port at 4800..4FFF changes the state.
-pub fn read_on(s: KnownState, arena: &[u8], addr: u16, image: &mut [u8]) -> Result<u64, Refusal>
+pub fn read_on(s: KnownState, arena: &[u8], addr: u16, image: &mut [u8]) -> Result<Word, Refusal>
     requires { (room_for (option_set s.state) (length image.old) ≡ true) × (image.old ≡ image_at (length image.old) s.state) }
     ensures value { word_of result ≡ (read_on s.state image.old arena.now addr).word }
     ensures image_after { image.new ≡ (read_on s.state image.old arena.now addr).image }
 {
     let got = cpu_read_known(s, arena, addr)?;
-    let word = (got.byte as u64) * 256;
+    let word = Word {
+        bits: (got.byte as u64) * 256,
+    };
     if 0x5000 <= addr {
         return Ok(word);
     }
@@ -66,7 +71,7 @@ pub fn write_on(
     addr: u16,
     val: u8,
     image: &mut [u8],
-) -> Result<u64, Refusal>
+) -> Result<Word, Refusal>
     requires { room_for (option_set s.state) (length image.old) ≡ true }
     ensures value { word_of result ≡ (write_on s.state image.old arena.old addr val).word }
     ensures image_after { image.new ≡ (write_on s.state image.old arena.old addr val).image }
@@ -84,16 +89,18 @@ fn run_through(
     samples: &mut [u8],
     image: &mut [u8],
     buf: &mut [f32],
-) -> Result<u64, Refusal>
+) -> Result<Word, Refusal>
     requires { (room_for (option_set s.state) (length image.old) ≡ true) × HoldsRun s.state n (length buf.old) }
     ensures value { word_of result ≡ (run_on s.state image.old samples.old n).word }
     ensures image_after { image.new ≡ (run_on s.state image.old samples.old n).image }
     ensures samples_after { samples.new ≡ (run_on s.state image.old samples.old n).lent }
 {
     let ran = run_into(s, n, samples.len(), buf)?;
-    put_samples(buf, ran.made, samples);
+    put_samples(&buf[..ran.made], samples);
     put_image(image, ran.state);
-    Ok((ran.made as u64) * 256 + (ran.rise as u64) * 4_294_967_296)
+    Ok(Word {
+        bits: (ran.made as u64) * 256 + (ran.rise as u64) * 4_294_967_296,
+    })
 }
 
 // The same, with a buffer of N places, so few that their bytes have a count.
@@ -102,7 +109,7 @@ fn run_with<const N: usize>(
     n: u64,
     samples: &mut [u8],
     image: &mut [u8],
-) -> Result<u64, Refusal>
+) -> Result<Word, Refusal>
     requires room { room_for (option_set s.state) (length image.old) ≡ true }
     requires buffer { HoldsRun s.state n N × (N ≤ 2 ^ 32) }
     ensures value { word_of result ≡ (run_on s.state image.old samples.old n).word }
@@ -114,7 +121,7 @@ fn run_with<const N: usize>(
 }
 
 // A run from a state, and the image of the state after it. A short run has a small buffer, since a buffer is cleared first.
-pub fn run_on(s: KnownState, n: u64, samples: &mut [u8], image: &mut [u8]) -> Result<u64, Refusal>
+pub fn run_on(s: KnownState, n: u64, samples: &mut [u8], image: &mut [u8]) -> Result<Word, Refusal>
     requires { room_for (option_set s.state) (length image.old) ≡ true }
     ensures value { word_of result ≡ (run_on s.state image.old samples.old n).word }
     ensures image_after { image.new ≡ (run_on s.state image.old samples.old n).image }

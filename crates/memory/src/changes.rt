@@ -23,22 +23,6 @@ pub struct Changed {
     pub chr: Changes<u16>,
 }
 
-impl Changed {
-    // What a refused write answers.
-    pub const NONE: Changed = Changed {
-        prg: Changes {
-            mask: 0,
-            count: 0,
-            lowest: 0,
-        },
-        chr: Changes {
-            mask: 0,
-            count: 0,
-            lowest: 0,
-        },
-    };
-}
-
 // An entry differs in its flag too.
 fn changed_mask<const N: usize>(old: &[Page; N], new: &[Page; N]) -> u64
     requires { N ≤ 64 }

@@ -5,7 +5,8 @@ ghost use Rattle.memory.specs.Memory.{region_in};
 ghost use Rattle.memory.specs.Range.{Sized};
 ghost use Rattle.memory.specs.Page.{offset_of};
 ghost use Rattle.memory_bytes.specs.Bytes.{Backed, prg_entry, chr_entry, place, shown_at, stored_at, wrapped_at, fetch, store};
-ghost use Rattle.memory_bytes.specs.Bytes.{prg_peek, prg_write, chr_peek, chr_write, region_peek, region_write, overlay, fill_region, sram_of};
+ghost use Rattle.memory_bytes.specs.Bytes.{prg_peek, prg_write, chr_peek, chr_write, region_peek, region_write};
+ghost use Rattle.memory_bytes.specs.Bytes.{overlay, fill_region, sram_of};
 
 use memory::Memory;
 use memory::layout::{Region, Src};

@@ -1,6 +1,7 @@
 -- The numbers of the refusals (N0), and an answer by them.
 use Rattle.std.specs.Prelude.{ℕ, Result, Ok, Err}
 use Rattle.refusals.specs.declared.Refusal.{Refusal}
+use Rattle.refusals.specs.declared.word.Word.{Word}
 use Rattle.refusals.specs.declared.Refusal.TheVariants.{Image, State, Kind, Mapper, Size, Reserve, Arena, Address, Fill, Clocks, Room}
 use Rattle.refusals.specs.declared.Refusal.TheVariants.{Battery, Block, Full}
 
@@ -32,6 +33,6 @@ answered refused accepted (Ok a) = accepted a
 answered refused accepted (Err r) = refused (number_of r)
 
 -- H6: a call's word: of a refused call the number
-abbrev pub word_of : Result ℕ Refusal → ℕ
-word_of (Ok w) = w
+abbrev pub word_of : Result Word Refusal → ℕ
+word_of (Ok given) = given.bits
 word_of (Err r) = number_of r

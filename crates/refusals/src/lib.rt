@@ -1,8 +1,12 @@
 // Why a call is refused (N0), and the number of each refusal as C and the log have it.
 #![tactic(auto)]
 
+pub mod word; // word.rt: what a C host's call gives
+
 ghost use Rattle.std.specs.Prelude.{◌≡◌, ◌<◌};
 ghost use Rattle.refusals.specs.Refusal.{number_of, refusal_of, word_of};
+
+use crate::word::Word;
 
 #[derive(Clone, Copy, Debug, PartialEq, Eq)]
 pub enum Refusal {
@@ -69,9 +73,12 @@ pub fn refusal_of<T>(answer: &Result<T, Refusal>) -> u8
     }
 }
 
-// H6: the word of a call: its refusal's number, or what it gives.
-pub fn word(answer: Result<u64, Refusal>) -> u64
+// H6: the word of a call: of an accepted one what it gives, of a refused one the number.
+pub fn word_of(answer: Result<Word, Refusal>) -> u64
     ensures { result ≡ word_of answer }
 {
-    answer.unwrap_or_else(|r| r.number() as u64)
+    match answer {
+        Ok(given) => given.bits,
+        Err(r) => r.number() as u64,
+    }
 }

@@ -58,8 +58,8 @@ impl Lines {
         self.flush(rt)
     }
 
-    // Answers each line that ends as it is read. A proved loop has to end, and nothing says that the input does: so it counts to a number that
-    // no run reaches.
+    // Answers each line that ends as it is read. A proved loop has to end, and nothing says that the input does: so it counts to a number
+    // that no run reaches.
     pub fn play<R: Input + Print>(&mut self, rt: &R) -> io::Result<()> {
         let mut reader = rt.reader();
         let mut chunk = [0u8; 65_536];

@@ -1,14 +1,15 @@
 -- Laws of bytes as one number.
-use mathlib.Core.Path.{◌≡◌, sym, ap, ap₂, ◌∙◌}
+use mathlib.Core.Path.{◌≡◌, refl, sym, ap, ◌∙◌}
 use mathlib.Core.List.{List, [], ◌∷◌, ◌++◌}
 use Prim.Native.Nat.{ℕ, zero, suc, ◌+◌, ◌-◌, ◌*◌, ◌^◌, ◌/◌, ◌%◌, ◌≤◌, ◌<◌}
 use native.Mathlib.Nat.{one-mul, not-suc-le-zero, le_of_suc-le-suc, mul-le-mul, lt_of_lt_of_le}
 use native.Mathlib.Numerals.{add-one}
 use native.Mathlib.Omega.{arith}
 use lib.Pow.{pow-add, pow_mono, shl_exact}
-use lib.ListN.{replicate, length, take, drop, set, get_or, length-append, length-replicate, replicate-append-replicate, length-drop}
-use lib.Seq.{take-suc, get_or-drop, paste, paste-suc, length-take-le}
+use lib.ListN.{replicate, length, take, drop, get_or, length-append, length-replicate, replicate-append-replicate, length-drop}
+use lib.Seq.{take-suc, get_or-drop, length-take-le}
 use Rattle.std.proofs.lemmas.List.{get_or-take}
+use Rattle.std.specs.Int.{w64, to_be_bytes}
 use Rattle.bits.specs.Fields.{total, pack, unpack, Fit}
 use Rattle.bits.specs.Words.{word_of, eights}
 use Rattle.bits.proofs.Fields.{pack-append, pack-unpack, unpack-pack, length-unpack, total-replicate}
@@ -76,16 +77,6 @@ pub load_fits : (acc j a : ℕ) → acc < 256 → j < 7 → a < (acc + 1) * 2 ^ 
 load_fits acc j a h l s =
     lt_of_lt_of_le s (mul-le-mul {n₂ = 2 ^ 8} (omega arith) (pow_mono {i = j * 8} {j = 48} (omega arith)))
 
--- ---- storing byte after byte
-
-pub store-suc : (img₀ img : List ℕ) (at k x j : ℕ) → at + k ≤ length img₀ → j < k → img ≡ paste img₀ at (unpack (eights k) x) j
-    → set img (at + j) (x / 2 ^ ((k - 1 - j) * 8) % 2 ^ 8) ≡ paste img₀ at (unpack (eights k) x) (j + 1)
-store-suc img₀ img at k x j room h e =
-    let l : j < length (unpack (eights k) x) = rw length-bytes h in
-    ap₂ (λ (i : List ℕ) (b : ℕ). set i (at + j) b) e (sym (byte_at k j x h))
-    ∙ paste-suc img₀ at (unpack (eights k) x) j 0 (omega arith) l
-    ∙ ap (paste img₀ at (unpack (eights k) x)) (sym (add-one j))
-
 pub word-of-bytes : (k x : ℕ) → x < 2 ^ (k * 8) → word_of (unpack (eights k) x) ≡ x
 word-of-bytes k x h =
     ap (λ (l : ℕ). pack (eights l) (unpack (eights k) x)) (length-bytes k x) ∙ pack-unpack (eights k) x (rw total-eights h)
@@ -97,3 +88,22 @@ fit-bytes (x ∷ xs) h = (h 0, fit-bytes xs (λ i. h (suc i)))
 -- bytes are those of their number
 pub bytes-of-word : (xs : List ℕ) → ((i : ℕ) → get_or xs i 0 < 2 ^ 8) → unpack (eights (length xs)) (word_of xs) ≡ xs
 bytes-of-word xs h = unpack-pack (eights (length xs)) xs (fit-bytes xs h)
+
+-- ---- the low bytes are the last of all
+
+drop-bytes : (j k x : ℕ) → drop j (unpack (eights (j + k)) x) ≡ unpack (eights k) x
+unfolding unpack
+drop-bytes zero k x = let e : 0 + k ≡ k = omega arith in rw e refl
+drop-bytes (suc j) k x = let e : suc j + k ≡ suc (j + k) = omega arith in rw e (drop-bytes j k x)
+
+eight-bytes : (x : ℕ) → to_be_bytes w64 x ≡ unpack (eights 8) x
+unfolding unpack total
+eight-bytes x =
+    let e : x ≡ x / 1 = omega arith in
+    ap (λ (y : ℕ). x / 0x100000000000000 % 256 ∷ x / 0x1000000000000 % 256 ∷ x / 0x10000000000 % 256 ∷ x / 0x100000000 % 256
+    ∷ x / 0x1000000 % 256 ∷ x / 0x10000 % 256 ∷ x / 0x100 % 256 ∷ y % 256 ∷ []) e
+
+pub last-bytes : (k x : ℕ) → k ≤ 8 → drop (8 - k) (to_be_bytes w64 x) ≡ unpack (eights k) x
+last-bytes k x h =
+    let e : 8 - k + k ≡ 8 = omega arith in
+    ap (drop (8 - k)) (eight-bytes x) ∙ (rw e at (drop-bytes (8 - k) k x))

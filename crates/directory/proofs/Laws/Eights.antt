@@ -78,9 +78,6 @@ pub record Rising (s : ℕ) (d : List ℕ) (up : Bool) (b far : ℕ) : Type 0 wh
   pub high : up ≡ true → s ≤ b
   pub rest : (F L : ℕ) → up ≡ true → far ≤ F → F < 4096 → b ≤ L → L + F < 0x10000 → (after : List ℕ) → ordered s (d ++ after) ≡ ordered b after
 
-pub rising-none : (s : ℕ) → Rising s [] true s 0
-rising-none s = record { high = λ u. omega arith; rest = λ F L u f g l m after. refl }
-
 pub rising-next : {s : ℕ} {d : List ℕ} {up : Bool} {b far : ℕ} → Rising s d up b far → 0x5FFF ≤ s → (w r : ℕ) → (r < 4096 → Reaches r w)
     → Rising s (d ++ w ∷ []) (up && ltb b (start_of w)) (start_of w) (bit_or far r)
 rising-next {s} {d} {up} {b} {far} p z w r h =

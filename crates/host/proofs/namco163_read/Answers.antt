@@ -2,7 +2,7 @@
 use Prim.Native.Nat.{ℕ}
 use mathlib.Core.Path.{◌≡◌, refl, ◌∙◌}
 use mathlib.Core.List.{List}
-use native.Mathlib.Omega.{arith}
+use borrow.Author.Rules.{rules}
 use lib.ListN.{length}
 use Rattle.refusals.proofs.Numbers.{numbered, passed-word}
 use Rattle.image_read.specs.Reading.{ReadImage}
@@ -28,7 +28,7 @@ returns-in_err-read c =
 pub read_on-requires : goal.read_on-requires
 read_on-requires c =
     let read = call c.args.image.now c.args.arena.now c.args.addr c.in_ok-read.ensures in
-    ((read.good refl).0, read.image (λ i. omega (arith, c.slice_known-1.given i)) refl)
+    ((read.good refl).0, read.image (search rules) refl)
 
 pub returns : goal.returns
 unfolding host_read

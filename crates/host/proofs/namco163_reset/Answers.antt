@@ -3,7 +3,7 @@ use Prim.Native.Nat.{ℕ}
 use mathlib.Core.Path.{◌≡◌, refl, ◌∙◌}
 use mathlib.Core.List.{List, [], ◌∷◌}
 use lib.ListN.{length}
-use Rattle.refusals.proofs.Numbers.{numbered, passed-word}
+use Rattle.refusals.proofs.Numbers.{numbered, passed}
 use Rattle.image_read.specs.Reading.{ReadImage}
 use Rattle.image_read.specs.Reading.{read_image}
 use Rattle.call_refusals.specs.Refusals.{kind_check}
@@ -22,7 +22,7 @@ pub returns-in_err-read : goal.returns-in_err-read
 unfolding host_reset
 returns-in_err-read c =
     let e = (call c.args.image.now c.args.kind c.in_err-read.ensures).refused (numbered _) in
-    record { value = passed-word _ _ c.from_residual.ensures.1 ∙ word_of e; image_after = image-of e }
+    record { value = passed _ _ c.from_residual.ensures.1 ∙ word_of e; image_after = image-of e }
 
 pub reset_on-requires : goal.reset_on-requires
 reset_on-requires c = ((call c.args.image.now c.args.kind c.in_ok-read.ensures).good refl).0

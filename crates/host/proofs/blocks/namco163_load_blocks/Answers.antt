@@ -2,7 +2,7 @@
 use mathlib.Core.Path.{refl, sym, ap, ◌∙◌}
 use mathlib.Core.List.{◌∷◌}
 use lib.ListN.{length}
-use Rattle.refusals.proofs.Numbers.{numbered, passed-word}
+use Rattle.refusals.proofs.Numbers.{numbered, passed}
 use borrow.Author.Rules.{rules}
 use Rattle.memory.specs.declared.layout.MemoryLayout.{MemoryLayout}
 use Rattle.call_refusals.specs.Refusals.{load_checks}
@@ -47,7 +47,7 @@ returns-in_err-fresh c =
     let places-left = ap (λ (x : MemoryLayout). load_drops a.directory.now a.mapper x a.arena.now) c.sizes_of.ensures in
     let e = call.refused (numbered _) in
     record {
-      value = passed-word _ _ c.from_residual.ensures.1 ∙ word_of e;
+      value = passed _ _ c.from_residual.ensures.1 ∙ word_of e;
       image_after = image-of e;
       arena_after = load.arena_after ∙ arena-left ∙ loaded.arena-stays (numbered _) ∙ lent_of e;
       directory_after = load.d_after ∙ places-left ∙ loaded.places-after;

@@ -2,7 +2,7 @@
 use Prim.Native.Nat.{ℕ}
 use mathlib.Core.Path.{◌≡◌, ◌∙◌, refl}
 use mathlib.Core.List.{List, []}
-use Rattle.refusals.proofs.Numbers.{numbered, passed-word}
+use Rattle.refusals.proofs.Numbers.{numbered, passed}
 use Rattle.image_read.specs.Reading.{ReadImage}
 use Rattle.image_read.specs.Reading.{read_image}
 use Rattle.call_blocks.specs.Blocks.{with_directory}
@@ -21,18 +21,8 @@ unfolding host_stored host_stored_places
 returns-in_err-read c =
     let after = call c.args.image.now c.args.directory.now c.args.offset c.in_err-read.ensures in
     record {
-      value = passed-word _ _ c.from_residual.ensures.1 ∙ after.refuses (with_directory c.args.directory.now []) (numbered _);
+      value = passed _ _ c.from_residual.ensures.1 ∙ after.refuses (with_directory c.args.directory.now []) (numbered _);
       directory_after = after.kept (numbered _);
-    }
-
-pub returns-in_err-stored_on : goal.returns-in_err-stored_on
-unfolding host_stored host_stored_places
-returns-in_err-stored_on c =
-    let after = call c.args.image.now c.args.directory.now c.args.offset c.in_ok-read.ensures in
-    record {
-      value = passed-word _ _ c.from_residual-in_err-stored_on.ensures.1 ∙ c.in_err-stored_on.ensures.value
-          ∙ after.passes (with_directory c.args.directory.now []) refl;
-      directory_after = c.in_err-stored_on.ensures.d_after ∙ after.made refl;
     }
 
 pub returns : goal.returns
@@ -40,6 +30,6 @@ unfolding host_stored host_stored_places
 returns c =
     let after = call c.args.image.now c.args.directory.now c.args.offset c.in_ok-read.ensures in
     record {
-      value = c.in_ok-stored_on.ensures.value ∙ after.passes (with_directory c.args.directory.now []) refl;
-      directory_after = c.in_ok-stored_on.ensures.d_after ∙ after.made refl;
+      value = c.stored_on.ensures.value ∙ after.passes (with_directory c.args.directory.now []) refl;
+      directory_after = c.stored_on.ensures.d_after ∙ after.made refl;
     }

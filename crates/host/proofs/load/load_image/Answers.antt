@@ -1,7 +1,7 @@
 -- `load_image` meets its contract: refused by the image, refused by the load, and accepted.
 use mathlib.Core.Path.{refl, sym, ap, ◌∙◌}
 use lib.ListN.{length}
-use Rattle.refusals.proofs.Numbers.{numbered, passed-word}
+use Rattle.refusals.proofs.Numbers.{numbered, passed}
 use borrow.Author.Rules.{rules}
 use Rattle.call_refusals.specs.Refusals.{load_checks}
 use Rattle.image_write.specs.Options.{image_at}
@@ -41,7 +41,7 @@ returns-in_err-fresh c =
     let e = call.refused (numbered _) in
     let kept = (load-refused k.mapper k.submapper k.flags k.known k.sizes k.options a.arena.now
     (λ z. numbered _ (number ∙ z))).1 in
-    record { value = passed-word _ _ c.from_residual.ensures.1 ∙ word_of e; image_after = image-of e; arena_after = load.1 ∙ kept ∙ lent_of e }
+    record { value = passed _ _ c.from_residual.ensures.1 ∙ word_of e; image_after = image-of e; arena_after = load.1 ∙ kept ∙ lent_of e }
 
 pub put_image-requires : goal.put_image-requires
 put_image-requires c =
