@@ -18,7 +18,7 @@ pub const RUN_LIMIT: u64 = 29_781;
 // As many samples as a run can make: RUN_LIMIT clocks from the greatest update counter.
 pub const SAMPLES_MOST: usize = 1_986;
 
-// C5: what a run gives: the samples made, the clock of the rise, from 1, or 0, and the state.
+// C5: what a run gives: the samples made, the clock of the rise, from 1, or 0, and the state. 0 is the number in C's word and in the log.
 #[derive(Clone, Copy)]
 pub struct Ran {
     pub made: usize,

@@ -45,7 +45,8 @@ pub fn some_goes(d: &[u64], touched: u64) -> bool
     false
 }
 
-// Each block is taken out of its place, and put down behind those that stay if it stays too.
+// Each block is taken out of its place, and put down behind those that stay if it stays too. By index: a place is read while one before it
+// is written.
 pub fn take_out(d: &mut [u64], touched: u64)
     ensures { d.new ≡ dropped touched d.old }
 {

@@ -20,7 +20,8 @@ pub fn free_place(d: &[u64]) -> Option<usize>
     d.iter().position(|w| *w == 0)
 }
 
-// Puts a block where its start belongs. Each with a higher start moves up by a place, to the first free one.
+// Puts a block where its start belongs. Each with a higher start moves up by a place, to the first free one. By index: the laws of a place
+// that is written are by its index.
 pub fn put(d: &mut [u64], word: u64)
     ensures { d.new ≡ put word d.old }
 {

@@ -29,15 +29,14 @@ use refusals::Refusal;
 use sound::audio::Audio;
 use sound::levels::whole_part;
 
-// The channel outputs as whole numbers.
+// The channel outputs as whole numbers. A loop as `put_run` of the cursor has: no proof closed for that of the outputs by `map`.
 fn put_levels(img: &mut [u8; IMAGE_BYTES], outs: &[f32; 8])
     requires { Levels outs.now }
     ensures { Wrote img.old img.new (byte_at levels_at) (byte_at out_at) (replicate 8 12) (map level_num outs.now) }
 {
     let mut c = Cursor::at_byte(LEVELS_AT);
     for x in outs {
-        let bits = f32::to_bits(*x);
-        c.put(img, 12, u64::from(whole_part(bits)));
+        c.put(img, 12, u64::from(whole_part(x.to_bits())));
     }
 }
 
@@ -51,8 +50,7 @@ fn put_out(img: &mut [u8; IMAGE_BYTES], x: f32)
     requires { OutInRange x }
     ensures { Wrote img.old img.new (byte_at out_at) (byte_at phases_at) (32 ∷ []) (to_bits binary32 x ∷ []) }
 {
-    let bits = f32::to_bits(x);
-    Cursor::at_byte(OUT_AT).put(img, 32, u64::from(bits));
+    Cursor::at_byte(OUT_AT).put(img, 32, u64::from(x.to_bits()));
 }
 
 fn put_phases(img: &mut [u8; IMAGE_BYTES], phases: &[u32; 8])

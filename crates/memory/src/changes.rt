@@ -12,7 +12,7 @@ use crate::page::Page;
 pub struct Changes<M> {
     pub mask: M,
     pub count: u32,
-    // The lowest changed entry, or the table's length.
+    // L15: the lowest changed entry, or the table's length: that number is in the log's answers too, so it is no Option.
     pub lowest: u32,
 }
 

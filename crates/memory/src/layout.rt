@@ -38,7 +38,7 @@ pub enum Src {
     CiRam,
 }
 
-// A region of the arena, in bytes.
+// A region of the arena, in bytes. That it lies in an arena is asked where it is needed: any two lengths make a region.
 #[derive(Clone, Copy)]
 pub struct Region {
     pub start: usize,

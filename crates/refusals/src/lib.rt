@@ -1,4 +1,4 @@
-// Why a call is refused (N0), and the number of each refusal as C and the log have it.
+// Why a call is refused (N0).
 #![tactic(auto)]
 
 pub mod word; // word.rt: what a C host's call gives
@@ -40,11 +40,12 @@ pub enum Refusal {
     Full,
 }
 
-impl Refusal {
-    pub fn number(self) -> u8
-        ensures { (result ≡ number_of self) × (result < 15) }
-    {
-        match self {
+// The number of a refusal, as C and the log have it.
+impl From<Refusal> for u8 {
+    ghost from_gives = { λ refusal n. (n ≡ number_of refusal) × (n < 15) };
+
+    fn from(refusal: Refusal) -> u8 {
+        match refusal {
             Refusal::Image => 1,
             Refusal::State => 2,
             Refusal::Kind => 3,
@@ -69,7 +70,7 @@ pub fn refusal_of<T>(answer: &Result<T, Refusal>) -> u8
 {
     match answer {
         Ok(_) => 0,
-        Err(r) => r.number(),
+        Err(r) => u8::from(*r),
     }
 }
 
@@ -79,6 +80,6 @@ pub fn word_of(answer: Result<Word, Refusal>) -> u64
 {
     match answer {
         Ok(given) => given.bits,
-        Err(r) => r.number() as u64,
+        Err(r) => u64::from(u8::from(r)),
     }
 }

@@ -40,7 +40,7 @@ pub fn answer<T: Drop, F: FnOnce(&mut Out, T) + Drop>(
         }
         Err(refusal) => {
             out.put_all(b"refused");
-            spaced(out, u64::from(refusal.number()));
+            spaced(out, u64::from(u8::from(refusal)));
         }
     }
     end_line(out);

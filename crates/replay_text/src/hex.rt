@@ -41,6 +41,7 @@ pub fn decode(digits: &[u8], bytes: &mut [u8]) -> Option<usize>
     if digits.len() % 2 == 1 || bytes.len() < n {
         return None;
     }
+    // By index: a byte goes by two digits, and what stands behind the last byte stays.
     for i in 0..n {
         bytes[i] = pair(digits[2 * i], digits[2 * i + 1])?;
     }

@@ -17,8 +17,8 @@ use Rattle.image_write.proofs.writing.put_levels.Goals as goal
 pub loop-x-init : goal.loop-x-init
 loop-x-init c = rw c.at_byte-c.ensures (wrote_none c.args.img.now (byte_at levels_at) (byte-held levels_at))
 
-pub float_to_bits-bits : goal.float_to_bits-bits
-float_to_bits-bits c = (level_out _ (c.requires c.loop-x.x-index (omega arith))).number
+pub float_to_bits-x : goal.float_to_bits-x
+float_to_bits-x c = (level_out _ (c.requires c.loop-x.x-index (omega arith))).number
 
 pub whole_part-requires : goal.whole_part-requires
 whole_part-requires c = (level_out _ (c.requires c.loop-x.x-index (omega arith))).bits
