@@ -1,5 +1,4 @@
-// The page tables by the registers. `Sized` stands in each contract, not in the type: a `Memory` is plain data that a host's image fills
-// before any test of it (N2).
+// The page tables by the registers. `Sized` is asked as in memory/src/lib.rt.
 #![tactic(auto)]
 
 ghost use Rattle.std.specs.Prelude.{◌≡◌, cond, ◌+◌, ◌≤◌, ◌<◌};
@@ -86,7 +85,7 @@ fn map_work_ram(chip: &Namco163, m: &mut Memory)
     requires { Sized m.old }
     ensures { m.new ≡ map_work_ram chip.now m.old }
 {
-    let board = chip.board;
+    let board = chip.board; // asked twice
     if board.prg_ram_readable() {
         let writable = board.prg_ram_writable(chip.regs.prg_ram_protect);
         map_prg(m, 0x6000, Namco163::PRG_WINDOW, 0, Src::PrgRam);

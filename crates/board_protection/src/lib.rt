@@ -33,7 +33,8 @@ fn protect_parts(m: &mut Memory, protect: u8)
     each_page(&mut m.prg_pages, 24, 8, flagged);
 }
 
-// The page tables by the registers, in either edition. The flags are set after the Rust's own mapping, which opens all of a 163.
+// The page tables by the registers, in either edition. The flags are set after the Rust's own mapping, which opens all of a 163. `Sized` is
+// asked as in memory/src/lib.rt.
 pub fn remap_banks(protects: bool, chip: Namco163, mut m: Memory) -> Memory
     requires { Sized m }
     ensures { result ≡ remap_banks protects chip m }

@@ -18,7 +18,7 @@ use memory::layout::Src;
 use refusals::Refusal;
 use sound::audio::Audio;
 
-// Where the battery's used bytes begin in the arena.
+// Where the battery's used bytes begin in the arena. `Sized` is asked as in memory/src/lib.rt.
 fn battery_start(m: Memory) -> usize
     requires { Sized m }
     ensures { result ≡ (region_in m BatteryExt).start }

@@ -8,6 +8,11 @@ use lib.Bits.{bit_or}
 use lib.Dec.{ltb}
 use lib.ListN.{length, replicate}
 use borrow.Author.Tests.{eq-eqb, ne_eqb}
+use Rattle.std.specs.Prelude.{Result, IsErrAnd}
+use Rattle.refusals.specs.declared.Refusal.{Refusal}
+use Rattle.refusals.specs.declared.Refusal.TheVariants.{State as Unranged}
+use Rattle.refusals.specs.Refusal.{number_of, refusal_of}
+use Rattle.refusals.proofs.Numbers.{numbered, errs}
 use Rattle.memory.specs.Changes.{changes, prg_changes}
 use Rattle.memory_bytes.specs.Bytes.{prg_entry, stored_at}
 use Rattle.memory.specs.declared.layout.MemoryLayout.{MemoryLayout}
@@ -82,6 +87,15 @@ module _ (d : List ℕ) (own : List Check) (arena after drop : List ℕ) where
         sym (fit-number d own e ∙ n),
         (call.1 ∙ sym (given-fit d (λ q. arena) after e), gone ∙ sym (given-accepted d own (λ q. d) drop e n)),
       )
+
+  -- the same as `?` hands it on: the directory's refusal, and the call's
+  pub handed-unfit : {A : Type 0} (r : Result A Refusal) (q : Refusal) → IsErrAnd r (λ e. e ≡ q) → (q ≡ Unranged) × (fit d ≡ false)
+      → Told (refusal_of r) arena d
+  handed-unfit r q h unfit = rw (errs r q h, unfit.0) (told-unfit unfit.1)
+
+  pub handed-refused : {A : Type 0} (r : Result A Refusal) (q : Refusal) → IsErrAnd r (λ e. e ≡ q) → fit d ≡ true → {left : List ℕ}
+      → (number_of q ≡ first_of own) × (left ≡ after) → Told (refusal_of r) left d
+  handed-refused r q h e call = rw (errs r q h) (told-refused e call (numbered q))
 
 -- K5: where no entry changes, the blocks go over the pages that show the stored byte
 pub stored-gone : (pages : List Page) (at : Option ℕ) (d : List ℕ) {mask : ℕ} {left : List ℕ} → mask ≡ shown_by pages at

@@ -34,10 +34,13 @@ read_answer s =
     (λ (r : ByteRead). record { refusal = 0; byte = r.byte; state = r.state })
 
 -- L8, S10: a read of the sound port moves its address, where auto-increment is set
+abbrev pub state_after_read : State → ℕ → State
+state_after_read s addr = with_chip s (after_read s.chip addr)
+
 unfoldable pub cpu_read : State → List ℕ → ℕ → ReadAnswer
 cpu_read s arena addr =
     unless_refused (cpu_checks s (length arena) addr) (λ q. record { refusal = q; byte = 0; state = s })
-    (record { refusal = 0; byte = cpu_byte s arena addr; state = with_chip s (after_read s.chip addr) })
+    (record { refusal = 0; byte = cpu_byte s arena addr; state = state_after_read s addr })
 
 -- L8, S10: a peek changes nothing
 unfoldable pub cpu_peek : State → List ℕ → ℕ → Peeked

@@ -4,13 +4,13 @@ ghost use Rattle.std.specs.Prelude.{◌≡◌};
 ghost use Rattle.memory_bytes.specs.Bytes.{Backed};
 ghost use Rattle.memory.specs.Range.{Sized};
 ghost use Rattle.call_answers.specs.Answers.{peeked};
-ghost use Rattle.call_cpu.specs.Calls.{cpu_byte, read_answer, cpu_read, cpu_peek, write_register, write_answer, cpu_write, cpu_write_arena};
+ghost use Rattle.call_cpu.specs.Calls.{cpu_byte, read_answer, state_after_read, cpu_read, cpu_peek, write_register, write_answer, cpu_write, cpu_write_arena};
 
 use board_protection::{remap_banks, remaps_in};
 use board_registers::writes;
 use board_state::State;
+use call_refusals::check_cpu_known;
 use call_refusals::known::KnownState;
-use call_refusals::{check_cpu, check_cpu_known};
 use memory::changes::{Changed, changes_between};
 use memory_bytes::bytes;
 use refusals::Refusal;
@@ -40,32 +40,39 @@ fn cpu_byte(s: State, arena: &[u8], addr: u16) -> u8
     }
 }
 
-pub fn cpu_read_known(s: KnownState, arena: &[u8], addr: u16) -> Result<ByteRead, Refusal>
-    ensures { read_answer s.state result ≡ cpu_read s.state arena.now addr }
+// Of a state whose range has been tested, as `check_cpu_known` of call_refusals, and so is `cpu_write_known`; the calls behind each test any
+// state first.
+pub fn cpu_peek_known(s: KnownState, arena: &[u8], addr: u16) -> Result<u8, Refusal>
+    ensures { peeked result ≡ cpu_peek s.state arena.now addr }
 {
     check_cpu_known(s, arena.len(), addr)?;
-    let byte = cpu_byte(s.state, arena, addr);
-    let chip = s.state.chip.after_read(addr);
-    Ok(ByteRead {
-        byte,
-        state: State { chip, ..s.state },
-    })
-}
-
-pub fn cpu_read(s: State, arena: &[u8], addr: u16) -> Result<ByteRead, Refusal>
-    ensures { read_answer s result ≡ cpu_read s arena.now addr }
-{
-    cpu_read_known(KnownState::new(s)?, arena, addr)
+    Ok(cpu_byte(s.state, arena, addr))
 }
 
 pub fn cpu_peek(s: State, arena: &[u8], addr: u16) -> Result<u8, Refusal>
     ensures { peeked result ≡ cpu_peek s arena.now addr }
 {
-    check_cpu(s, arena.len(), addr)?;
-    Ok(cpu_byte(s, arena, addr))
+    cpu_peek_known(KnownState::new(s)?, arena, addr)
 }
 
-// L11, L21: the registers after a write, and the tables where they are mapped anew.
+// L8, S10: the state after a read. Only the sound port at 4800..4FFF changes it.
+pub fn after_read(s: State, addr: u16) -> State
+    ensures { result ≡ state_after_read s addr }
+{
+    let chip = s.chip.after_read(addr);
+    State { chip, ..s }
+}
+
+pub fn cpu_read(s: State, arena: &[u8], addr: u16) -> Result<ByteRead, Refusal>
+    ensures { read_answer s result ≡ cpu_read s arena.now addr }
+{
+    Ok(ByteRead {
+        byte: cpu_peek(s, arena, addr)?,
+        state: after_read(s, addr),
+    })
+}
+
+// L11, L21: the registers after a write, and the tables where they are mapped anew. `Sized` is asked as in memory/src/lib.rt.
 pub fn write_register(s: State, addr: u16, val: u8) -> State
     requires { Sized s.memory }
     ensures { result ≡ write_register s addr val }

@@ -26,6 +26,8 @@ pub fn check_reset(s: State, kind: u64) -> Result<ResetKind, Refusal>
     }
 }
 
+// Of a state whose range has been tested, as a read of an image does it: so a C call makes one test. `check_arena` tests any state and goes on
+// here, and so does a call of call_cpu; a trait over both kinds of state would be longer than their two lines.
 pub fn check_arena_known(s: KnownState, len: usize) -> Result<(), Refusal>
     ensures { refusal_of result ≡ first_of (arena_checks s.state len) }
 {
@@ -49,12 +51,6 @@ pub fn check_cpu_known(s: KnownState, len: usize, addr: u16) -> Result<(), Refus
         return Err(Refusal::Address);
     }
     Ok(())
-}
-
-pub fn check_cpu(s: State, len: usize, addr: u16) -> Result<(), Refusal>
-    ensures { refusal_of result ≡ first_of (cpu_checks s len addr) }
-{
-    check_cpu_known(KnownState::new(s)?, len, addr)
 }
 
 pub fn check_fill(s: State, len: usize, src: Src, n: usize) -> Result<(), Refusal>

@@ -5,7 +5,7 @@ ghost use Rattle.call_run.specs.Clock.{chip_clock, counter_run, counter_rise};
 
 use board_chip::namco163::{Namco163, Regs};
 
-// The chip after one clock: the counter moves (C1), and on a 163 the sound follows (C2).
+// The chip after one clock: the counter moves (C1), and on a 163 the sound follows (C2). `InRange` is asked as in sound_clock.
 #[tactic(auto, unfolding(crate::specs::Clock::chip_clock))]
 pub fn clock(mut chip: Namco163) -> Namco163
     requires { InRange chip.audio }

@@ -38,7 +38,7 @@ fn shown_by(pages: [Page; 64], at: Option<usize>) -> u64
     }
 }
 
-// Of a CPU write.
+// Of a CPU write. This and the next are a line each over the one function, which would gain a closure for the entry.
 pub fn stored_prg(m: Memory, addr: u16) -> u64
     ensures { result ≡ shown_by m.prg_pages (stored_at (prg_entry m addr) addr) }
 {
@@ -52,7 +52,7 @@ pub fn stored_chr(m: Memory, addr: u16) -> u64
     shown_by(m.prg_pages, stored_at(chr_entry(&m, addr), addr))
 }
 
-// Of a region write, at an offset that wraps.
+// Of a region write, at an offset that wraps. `Sized` is asked as in memory/src/lib.rt.
 pub fn stored_region(m: Memory, src: Src, offset: u64) -> u64
     requires { Sized m }
     ensures { result ≡ shown_by m.prg_pages (wrapped_at (region_in m src) offset) }

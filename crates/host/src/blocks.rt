@@ -60,7 +60,8 @@ pub fn namco163_find(directory: &[u64], start: u16) -> u64
     found_word(Block::of_word(find(directory, start))).bits
 }
 
-// A load with options that empties the directory too (K7). It reads neither image nor places.
+// A load with options that empties the directory too (K7). It reads neither image nor places. The steps before and after the load are
+// load_image's (load.rt): one function for both would take the load as a closure with its contract, which is longer than these steps.
 pub fn namco163_load_blocks(
     image: &mut [u8],
     arena: &mut [u8],

@@ -1,5 +1,6 @@
 // The calls of the C host (H4), which `host_c` exports: the seven without a directory of blocks here, the six with one in blocks.rt. Each
-// gives its word, where it has one, or a refusal (H6). Their parameters are the C calls', one by one.
+// gives its word, where it has one, or a refusal (H6). Their parameters are the C calls', one by one. `host_c` stands beside this crate,
+// since a crate is either a library for Rattle or one for C.
 #![tactic(auto)]
 
 pub mod blocks; // blocks.rt: register, lookup, find, and load, write and stored with a directory

@@ -21,7 +21,8 @@ use memory::Memory;
 use refusals::Refusal;
 use refusals::word::Word;
 
-// A CPU write on a state, and the image of the state after it. The blocks over the pages that it touches go.
+// A CPU write on a state, and the image of the state after it, which the bytes hold (as in image_write). The blocks over the pages that it
+// touches go.
 pub fn write_blocks_on(
     d: &mut [u64],
     s: KnownState,
@@ -43,7 +44,7 @@ pub fn write_blocks_on(
     Ok(changes_word(written.changed))
 }
 
-// The CPU pages that show the arena page of a byte; none for a byte behind the arena.
+// The CPU pages that show the arena page of a byte; none for a byte behind the arena. `Sized` is asked as in memory/src/lib.rt.
 fn stored_byte(m: Memory, offset: u64) -> u64
     requires { Sized m }
     ensures { result ≡ shown_by m.prg_pages (arena_byte m offset) }

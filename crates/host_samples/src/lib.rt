@@ -21,7 +21,8 @@ fn put_sample(bytes: &mut [u8], at: usize, x: f32)
     bytes[at..at + 4].copy_from_slice(&x.to_bits().to_be_bytes());
 }
 
-// The samples over the start of the bytes.
+// The samples over the start of the bytes. By `chunks_exact_mut` and `zip` no proof closed: they say what a chunk holds as it is lent, and
+// not what the bytes hold once it is written.
 pub fn put_samples(samples: &[f32], bytes: &mut [u8])
     requires room { 4 * length samples.now ≤ length bytes.old }
     requires by_index { (j : ℕ) → j < length samples.now → T (not (is_nan (get_or samples.now j nan))) }

@@ -10,7 +10,7 @@ ghost use Rattle.host_samples.specs.Samples.{HoldsRun};
 ghost use Rattle.host_state.specs.HostState.{reset_on, read_on, write_on, run_on};
 
 use board_state::State;
-use call_cpu::calls::{cpu_read_known, cpu_write_known};
+use call_cpu::calls::{after_read, cpu_peek_known, cpu_write_known};
 use call_refusals::known::KnownState;
 use call_reset::reset;
 use call_run::run::SAMPLES_MOST;
@@ -53,14 +53,14 @@ pub fn read_on(s: KnownState, arena: &[u8], addr: u16, image: &mut [u8]) -> Resu
     ensures value { word_of result ≡ (read_on s.state image.old arena.now addr).word }
     ensures image_after { image.new ≡ (read_on s.state image.old arena.now addr).image }
 {
-    let got = cpu_read_known(s, arena, addr)?;
+    let byte = cpu_peek_known(s, arena, addr)?;
     let word = Word {
-        bits: (got.byte as u64) * 256,
+        bits: (byte as u64) * 256,
     };
     if 0x5000 <= addr {
         return Ok(word);
     }
-    put_image(image, got.state);
+    put_image(image, after_read(s.state, addr));
     Ok(word)
 }
 

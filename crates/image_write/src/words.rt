@@ -19,7 +19,7 @@ pub fn regs_word(chip: &Namco163) -> u64
     ensures value { result ≡ pack (part chip_widths 0) (part (chip_fields chip.now) 0) }
     ensures upper_bound { result < 2 ^ 53 }
 {
-    let regs = chip.regs;
+    let regs = chip.regs; // five of its fields are taken
     let pending = u64::from(regs.irq_pending);
     let lo = u64::from(regs.nt_select_lo);
     let hi = u64::from(regs.nt_select_hi);
@@ -74,7 +74,7 @@ pub fn port_word(audio: &Audio) -> u64
         + u64::from(audio.current_channel)
 }
 
-// The page counts, the CHR-RAM flag and whether the reserve is used in 32 bits.
+// The page counts, the CHR-RAM flag and whether the reserve is used in 32 bits. `GoodLayout` is asked as in memory/src/layout.rt.
 pub fn layout_word(m: &Memory) -> u64
     requires { GoodLayout m.now.layout }
     ensures { (result ≡ pack layout_widths (layout_fields m.now)) × (result < 2 ^ 32) }

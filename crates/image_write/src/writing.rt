@@ -75,6 +75,7 @@ fn put_chip(img: &mut [u8; IMAGE_BYTES], chip: &Namco163)
     c.put(img, 18, banks_word(&chip.prg_banks));
 }
 
+// The ranges are asked as in sound_clock/src/clock.rt and memory/src/lib.rt: of any state that a host lends, write_image tests them.
 fn put_sound(img: &mut [u8; IMAGE_BYTES], audio: &Audio)
     requires { AudioInRange audio.now }
     ensures { Wrote img.old img.new (byte_at ram_at) (byte_at prg_pages_at)
@@ -109,7 +110,8 @@ pub fn put_state(img: &mut [u8], s: &State)
     }
 }
 
-// The image of a state that is known to be in range, at the length of the lent bytes.
+// The image of a state that is known to be in range, at the length of the lent bytes. That they hold it is asked here and of what calls
+// this: a type of bytes and state would borrow the image from its read to its write.
 pub fn put_image(img: &mut [u8], s: State)
     requires { (room_for (option_set s) (length img.old) ≡ true) × Known s }
     ensures { img.new ≡ image_at (length img.old) s }

@@ -116,7 +116,7 @@ impl Layout {
         }
     }
 
-    // A region, given how much of the battery reserve is used.
+    // A region, given how much of the battery reserve is used, which is a number of the memory and no part of its layout.
     pub fn region(self, battery_ext_len: usize, src: Src) -> Region
         requires { (GoodLayout self) × (battery_ext_len ≤ 1024 * self.battery_ext) }
         ensures { (result ≡ region_of self battery_ext_len src) × (result.start + result.len ≤ arena_most) }

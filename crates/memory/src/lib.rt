@@ -20,14 +20,15 @@ pub mod range; // range.rt: whether a memory is in range
 #[derive(Clone, Copy)]
 pub struct Memory {
     pub layout: Layout,
-    // How much of the battery reserve is used.
+    // How much of the battery reserve is used: a length alone, since the bytes lie in the arena.
     pub battery_ext_len: usize,
     pub prg_pages: [Page; 64],
     pub chr_pages: [Page; 16],
 }
 
 impl Memory {
-    // A region, by how much of the battery reserve is used.
+    // A region, by how much of the battery reserve is used. `Sized` is asked here and by what maps pages, and is in no type: a
+    // host may lend any memory, and a type for a sized one would be taken apart and made again at each mapping.
     pub fn region(&self, src: Src) -> Region
         requires { Sized self.now }
         ensures { (result ≡ region_in self.now src) × (result.start + result.len ≤ arena_most) }

@@ -1,5 +1,7 @@
 // The bytes behind the page entries and in the regions. The arena is lent: a read borrows it and a write changes it, so it stands beside
-// the memory in each call, and one struct of both would have to come in a shared and an exclusive form.
+// the memory in each call, and one struct of both would have to come in a shared and an exclusive form: so `Backed` is asked of the two.
+// The Rust's calls of the two tables are a line each over an entry: one function of an entry would ask of it where it lies in the arena,
+// which each caller would have to show.
 ghost use Rattle.std.specs.Prelude.{◌+◌, ◌^◌, ◌≤◌, ◌<◌, ◌≡◌, length, IfSome};
 ghost use Rattle.memory.specs.Memory.{region_in};
 ghost use Rattle.memory.specs.Range.{Sized};

@@ -31,7 +31,7 @@ fn nametable_page(ciram: Region, bank: usize) -> Page
     Page::new(ciram.start + 1024 * (bank % (ciram.len / 1024)), true)
 }
 
-// Points the nametables at CIRAM: all eight entries, $3000 as $2000.
+// Points the nametables at CIRAM: all eight entries, $3000 as $2000. `Sized` is asked as in memory/src/lib.rt.
 pub fn set_mirroring(m: &mut Memory, mirroring: Mirroring)
     requires { Sized m.old }
     ensures { (m.new ≡ set_mirroring m.old mirroring) × (Sized m.new) }

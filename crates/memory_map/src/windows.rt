@@ -1,5 +1,5 @@
 // Windows of the two address spaces: banks of a region mapped into a page table.
-// `Sized` stands in each contract, not in the type: a `Memory` is plain data that a host's image fills before any test of it (N2).
+// `Sized` is asked as in memory/src/lib.rt.
 ghost use Rattle.std.specs.Prelude.{◌+◌, ◌*◌, ◌/◌, ◌^◌, ◌≤◌, ◌<◌, ◌≡◌};
 ghost use Rattle.memory_map.specs.Windows.{banks_of, window_base, region_page, with_flag};
 ghost use Rattle.memory_map.specs.Windows.{map_pages, map_prg, unmap_prg, set_prg_writable};

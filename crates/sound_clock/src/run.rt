@@ -10,7 +10,7 @@ use sound_wave::channel::{Channel, base_addr, channel_count};
 use sound_wave::mix;
 
 // C6: how many updates `n` clocks make follows from the update counter. The loop steps from update to update, in place. Answers how many
-// samples were made.
+// samples were made. `InRange` is asked as in clock.rt.
 pub fn run(a: &mut Audio, n: u32, samples: &mut [f32]) -> usize
     requires in_range { InRange a.old }
     requires a_in_bounds { length (samples_of n a.old) ≤ length samples.old }

@@ -25,27 +25,6 @@ arena-pages l = go l.chr_writable
     go true = omega arith
     go false = omega arith
 
--- a region's pages end inside the arena
-pub region-ends : (l : Layout) (s : Src) → first_page l s + pages_in l s ≤ arena_pages l
-unfolding first_page arena_pages pages_before pages_of_all arena_order
-region-ends l s = go l.chr_writable s
-  where
-    go : (ram : Bool) (s : Src) → 1 + pages_before l s (arena_order ram) + pages_in l s ≤ 1 + pages_of_all l (arena_order ram)
-    go true PrgRom = omega arith
-    go true PrgRam = omega arith
-    go true BatteryExt = omega arith
-    go true Chr = omega arith
-    go true CiRam = omega arith
-    go false PrgRom = omega arith
-    go false PrgRam = omega arith
-    go false BatteryExt = omega arith
-    go false Chr = omega arith
-    go false CiRam = omega arith
-
--- R4: the largest arena, every size at its limit
-pub pages-le : (l : Layout) → GoodLayout l → arena_pages l ≤ arena_most / 1024
-pages-le l g = omega (arith, arena-pages l)
-
 -- where each region begins, by whether CHR is RAM
 abbrev pub place : Layout → Bool → Src → ℕ
 place l ram PrgRom = 1
@@ -57,22 +36,33 @@ place l true Chr = 1 + l.prg_rom + l.prg_ram + l.battery_ext
 place l false Chr = 1 + l.prg_rom
 place l ram CiRam = 1 + l.prg_rom + l.prg_ram + l.battery_ext + l.chr
 
--- the definition's first page is there
+-- the definition's first page is there, and the region's pages end inside the arena
+places : (l : Layout) (ram : Bool) (s : Src)
+    → (place l ram s ≡ 1 + pages_before l s (arena_order ram))
+    × (1 + pages_before l s (arena_order ram) + pages_in l s ≤ 1 + pages_of_all l (arena_order ram))
+unfolding pages_before pages_of_all arena_order
+places l true PrgRom = (omega arith, omega arith)
+places l true PrgRam = (omega arith, omega arith)
+places l true BatteryExt = (omega arith, omega arith)
+places l true Chr = (omega arith, omega arith)
+places l true CiRam = (omega arith, omega arith)
+places l false PrgRom = (omega arith, omega arith)
+places l false PrgRam = (omega arith, omega arith)
+places l false BatteryExt = (omega arith, omega arith)
+places l false Chr = (omega arith, omega arith)
+places l false CiRam = (omega arith, omega arith)
+
 place-first : (l : Layout) (s : Src) → place l l.chr_writable s ≡ first_page l s
-unfolding first_page pages_before arena_order
-place-first l s = go l.chr_writable s
-  where
-    go : (ram : Bool) (t : Src) → place l ram t ≡ 1 + pages_before l t (arena_order ram)
-    go true PrgRom = omega arith
-    go true PrgRam = omega arith
-    go true BatteryExt = omega arith
-    go true Chr = omega arith
-    go true CiRam = omega arith
-    go false PrgRom = omega arith
-    go false PrgRam = omega arith
-    go false BatteryExt = omega arith
-    go false Chr = omega arith
-    go false CiRam = omega arith
+unfolding first_page
+place-first l s = (places l l.chr_writable s).0
+
+pub region-ends : (l : Layout) (s : Src) → first_page l s + pages_in l s ≤ arena_pages l
+unfolding first_page arena_pages
+region-ends l s = (places l l.chr_writable s).1
+
+-- R4: the largest arena, every size at its limit
+pub pages-le : (l : Layout) → GoodLayout l → arena_pages l ≤ arena_most / 1024
+pages-le l g = omega (arith, arena-pages l)
 
 -- and inside the largest arena
 pub first-at : (l : Layout) (ram : Bool) (s t : Src) (n : ℕ) → GoodLayout l → l.chr_writable ≡ ram → s ≡ t → n ≡ place l ram t

@@ -1,30 +1,21 @@
 -- `chr_write` meets its contract: the directory unfit, the call refused, and accepted.
 use mathlib.Core.Path.{refl}
-use Rattle.refusals.proofs.Numbers.{numbered, errs}
 use Rattle.call_blocks.specs.Blocks.{chr_touched, chr_write_leaves, chr_write_drops}
-use Rattle.call_blocks.proofs.Laws.{told-unfit, told-refused, told-accepted, stored-gone}
+use Rattle.call_blocks.proofs.Laws.{handed-unfit, handed-refused, told-accepted, stored-gone}
 use Rattle.call_blocks.proofs.writes.chr_write.Goals as goal
 
 pub returns-in_err-check_directory : goal.returns-in_err-check_directory
 unfolding chr_write_leaves chr_write_drops
 returns-in_err-check_directory c =
-    let told = told-unfit c.args.d.now _ c.args.arena.now _ _ c.in_err-check_directory.ensures.1 in
-    record {
-      value = rw (errs _ _ c.from_residual.ensures.1, c.in_err-check_directory.ensures.0) told.0;
-      arena_after = told.1.0;
-      d_after = told.1.1;
-    }
+    let told = handed-unfit c.args.d.now _ c.args.arena.now _ _ _ _ c.from_residual.ensures.1 c.in_err-check_directory.ensures in
+    record { value = told.0; arena_after = told.1.0; d_after = told.1.1 }
 
 pub returns-in_err-chr_write : goal.returns-in_err-chr_write
 unfolding chr_write_leaves chr_write_drops
 returns-in_err-chr_write c =
-    let told =
-    told-refused c.args.d.now _ c.args.arena.now _ _ c.in_ok-check_directory.ensures c.in_err-chr_write.ensures (numbered _) in
-    record {
-      value = rw (errs _ _ c.from_residual-in_err-chr_write.ensures.1) told.0;
-      arena_after = told.1.0;
-      d_after = told.1.1;
-    }
+    let fit = c.in_ok-check_directory.ensures in
+    let told = handed-refused c.args.d.now _ c.args.arena.now _ _ _ _ c.from_residual-in_err-chr_write.ensures.1 fit c.in_err-chr_write.ensures in
+    record { value = told.0; arena_after = told.1.0; d_after = told.1.1 }
 
 pub returns : goal.returns
 unfolding chr_write_leaves chr_write_drops chr_touched

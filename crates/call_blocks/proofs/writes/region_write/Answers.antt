@@ -1,32 +1,23 @@
 -- `region_write` meets its contract: the directory unfit, the call refused, and accepted.
 use mathlib.Core.Path.{refl, sym}
-use Rattle.refusals.proofs.Numbers.{numbered, errs}
 use Rattle.board_state.proofs.Range.{memory-good}
 use Rattle.call_refusals.proofs.Laws.{arena-good}
 use Rattle.call_blocks.specs.Blocks.{region_touched, region_write_leaves, region_write_drops}
-use Rattle.call_blocks.proofs.Laws.{told-unfit, told-refused, told-accepted, stored-gone}
+use Rattle.call_blocks.proofs.Laws.{handed-unfit, handed-refused, told-accepted, stored-gone}
 use Rattle.call_blocks.proofs.writes.region_write.Goals as goal
 
 pub returns-in_err-check_directory : goal.returns-in_err-check_directory
 unfolding region_write_leaves region_write_drops
 returns-in_err-check_directory c =
-    let told = told-unfit c.args.d.now _ c.args.arena.now _ _ c.in_err-check_directory.ensures.1 in
-    record {
-      value = rw (errs _ _ c.from_residual.ensures.1, c.in_err-check_directory.ensures.0) told.0;
-      arena_after = told.1.0;
-      d_after = told.1.1;
-    }
+    let told = handed-unfit c.args.d.now _ c.args.arena.now _ _ _ _ c.from_residual.ensures.1 c.in_err-check_directory.ensures in
+    record { value = told.0; arena_after = told.1.0; d_after = told.1.1 }
 
 pub returns-in_err-region_write : goal.returns-in_err-region_write
 unfolding region_write_leaves region_write_drops
 returns-in_err-region_write c =
-    let told =
-    told-refused c.args.d.now _ c.args.arena.now _ _ c.in_ok-check_directory.ensures c.in_err-region_write.ensures (numbered _) in
-    record {
-      value = rw (errs _ _ c.from_residual-in_err-region_write.ensures.1) told.0;
-      arena_after = told.1.0;
-      d_after = told.1.1;
-    }
+    let fit = c.in_ok-check_directory.ensures in
+    let told = handed-refused c.args.d.now _ c.args.arena.now _ _ _ _ c.from_residual-in_err-region_write.ensures.1 fit c.in_err-region_write.ensures in
+    record { value = told.0; arena_after = told.1.0; d_after = told.1.1 }
 
 pub stored_region-requires : goal.stored_region-requires
 stored_region-requires c =

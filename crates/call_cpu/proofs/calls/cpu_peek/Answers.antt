@@ -1,18 +1,9 @@
--- `cpu_peek` meets its contract: refused, and accepted.
-use mathlib.Core.Path.{sym}
-use Rattle.refusals.proofs.Numbers.{errs, refuses}
-use Rattle.call_refusals.proofs.Laws.{cpu-good, backed}
+-- `cpu_peek` meets its contract: refused by the state's check, or on with a state in range.
+use Rattle.refusals.proofs.Numbers.{errs}
+use Rattle.call_refusals.specs.Refusals.{first_of}
 use Rattle.call_cpu.specs.Calls.{cpu_peek}
 use Rattle.call_cpu.proofs.calls.cpu_peek.Goals as goal
 
-pub returns-in_err-check_cpu : goal.returns-in_err-check_cpu
-unfolding cpu_peek
-returns-in_err-check_cpu c = rw (errs _ _ c.from_residual.ensures.1, ← c.in_err-check_cpu.ensures, refuses _)
-
--- none of the checks holds
-pub cpu_byte-requires : goal.cpu_byte-requires
-cpu_byte-requires c = backed _ _ (cpu-good _ _ _ (sym c.in_ok-check_cpu.ensures)).0
-
-pub returns : goal.returns
-unfolding cpu_peek
-returns c = rw (← c.in_ok-check_cpu.ensures, c.cpu_byte.ensures)
+pub returns-in_err-new : goal.returns-in_err-new
+unfolding first_of cpu_peek
+returns-in_err-new c = rw (errs _ _ c.from_residual.ensures.1, c.in_err-new.ensures.0, c.in_err-new.ensures.1)
