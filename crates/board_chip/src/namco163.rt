@@ -1,6 +1,6 @@
 // The fields of the board, as the Rust has them, and the board with one of them replaced.
 ghost use Rattle.std.specs.Prelude.{◌≡◌, ◌<◌};
-ghost use Rattle.board_chip.specs.Namco163.{Numbered, board_num, is163, is175, is340, with_board, with_mirroring};
+ghost use Rattle.board_chip.specs.Namco163.{Numbered, board_num, is163, with_board, with_mirroring};
 
 use memory::mirroring::Mirroring;
 use sound::audio::Audio;
@@ -53,18 +53,6 @@ impl Board {
     {
         self == Board::Namco163
     }
-
-    pub fn is_175(self) -> bool
-        ensures { result ≡ is175 self }
-    {
-        self == Board::Namco175
-    }
-
-    pub fn is_340(self) -> bool
-        ensures { result ≡ is340 self }
-    {
-        self == Board::Namco340
-    }
 }
 
 #[derive(Clone, Copy)]
@@ -86,7 +74,8 @@ pub struct Namco163 {
     pub auto_detect_board: bool,
     pub mirroring: Mirroring,
     pub prg_ram_written_to: bool,
-    // Whether each of the twelve 1 KiB slots of 0000..2FFF shows CIRAM instead of CHR.
+    // Whether each of the twelve 1 KiB slots of 0000..2FFF shows CIRAM instead of CHR. Two arrays, as the Rust has and R8 names them; so
+    // are the sound's two of its channels.
     pub nt_bank_enable: [bool; 12],
     pub chr_banks: [u8; 12],
     // The 8 KiB banks at 8000, A000 and C000; E000 shows the last bank.

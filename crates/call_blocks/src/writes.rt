@@ -17,7 +17,7 @@ use memory::changes::Changed;
 use memory::layout::Src;
 use refusals::Refusal;
 
-// Of a state whose range has been tested, as `check_cpu_known` of call_refusals; `cpu_write` tests any state first.
+// Of a state whose range is known, as `check_arena_known` of call_refusals; `cpu_write` takes any and tests it.
 pub fn cpu_write_known(
     d: &mut [u64],
     s: KnownState,

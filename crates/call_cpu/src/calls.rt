@@ -40,8 +40,8 @@ fn cpu_byte(s: State, arena: &[u8], addr: u16) -> u8
     }
 }
 
-// Of a state whose range has been tested, as `check_cpu_known` of call_refusals, and so is `cpu_write_known`; the calls behind each test any
-// state first.
+// This and `cpu_write_known` take a state whose range is known, as `check_arena_known` of call_refusals does. `cpu_peek` and `cpu_write`
+// take any, test it and go on here.
 pub fn cpu_peek_known(s: KnownState, arena: &[u8], addr: u16) -> Result<u8, Refusal>
     ensures { peeked result ≡ cpu_peek s.state arena.now addr }
 {

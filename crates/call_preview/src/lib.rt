@@ -1,5 +1,5 @@
 // A look before a CPU write (L18): what the write would answer. The state is a value and the arena is only read, so nothing is altered. The
-// call `preview` takes any state; `preview_known` takes one whose range has been tested, as `check_cpu_known` of call_refusals.
+// call `preview` takes any state; `preview_known` takes one whose range is known, as `check_arena_known` of call_refusals.
 #![tactic(auto)]
 
 ghost use Rattle.std.specs.Prelude.{◌≡◌};

@@ -20,14 +20,15 @@ pub fn check_reset(s: State, kind: u64) -> Result<ResetKind, Refusal>
     ensures kind { IfOk result (λ k. kind_num k ≡ kind) }
 {
     KnownState::new(s)?;
+    // Not `map_err`: what its closure gives would need a contract of its own, which is longer.
     match ResetKind::try_from(kind) {
         Ok(kind) => Ok(kind),
         Err(_) => Err(Refusal::Kind),
     }
 }
 
-// Of a state whose range has been tested, as a read of an image does it: so a C call makes one test. `check_arena` tests any state and goes on
-// here, and so does a call of call_cpu; a trait over both kinds of state would be longer than their two lines.
+// Of a state whose range is known, as a read of an image gives it, so that it is not tested twice. `check_arena` takes any state, tests it
+// and goes on here; a trait over both kinds of state would be longer than its two lines.
 pub fn check_arena_known(s: KnownState, len: usize) -> Result<(), Refusal>
     ensures { refusal_of result ≡ first_of (arena_checks s.state len) }
 {
@@ -43,6 +44,7 @@ pub fn check_arena(s: State, len: usize) -> Result<(), Refusal>
     check_arena_known(KnownState::new(s)?, len)
 }
 
+// As `check_arena_known`. The calls of call_cpu test any state before it.
 pub fn check_cpu_known(s: KnownState, len: usize, addr: u16) -> Result<(), Refusal>
     ensures { refusal_of result ≡ first_of (cpu_checks s.state len addr) }
 {

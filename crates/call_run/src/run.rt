@@ -30,7 +30,7 @@ pub struct Ran {
 fn samples_made(s: KnownState, n: u32) -> usize
     ensures { result ≡ made n s.state }
 {
-    let chip = s.state.chip; // asked four times
+    let chip = s.state.chip; // asked three times
     if !chip.board.is_163() {
         return 0;
     }
@@ -106,7 +106,7 @@ fn run_counted(s: State, n: u32, samples: &mut [f32]) -> Counted
     }
 }
 
-// Of a state whose range has been tested, as `check_cpu_known` of call_refusals; `run` tests any state first.
+// Of a state whose range is known, as `check_arena_known` of call_refusals; `run` takes any and tests it.
 pub fn run_known(s: KnownState, n: u64, samples: &mut [f32]) -> Result<Ran, Refusal>
     ensures { (run_answer s.state result ≡ ran_of (run_gave s.state n samples.old))
         × (samples.new ≡ (run_gave s.state n samples.old).samples) }

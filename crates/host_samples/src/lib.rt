@@ -33,7 +33,8 @@ pub fn put_samples(samples: &[f32], bytes: &mut [u8])
     }
 }
 
-// N11: a run with room for a sample in each 4 of so many bytes, into a buffer that holds all that it can make.
+// N11: a run with room for a sample in each 4 of so many bytes, into a buffer that holds all that it can make. `HoldsRun` ties three
+// parameters, and the callers of `host_state` have the buffer: no type of one of them could say it.
 pub fn run_into(s: KnownState, n: u64, bytes: usize, buf: &mut [f32]) -> Result<Ran, Refusal>
     requires { HoldsRun s.state n (length buf.old) }
     ensures { (run_answer s.state result ≡ ran_of (run_in s.state n (bytes / 4) buf.old))

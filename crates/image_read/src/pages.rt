@@ -63,6 +63,7 @@ pub fn get_pages(img: &[u8], at: usize, pages: &mut [Page])
     requires { (length pages.old % 8 ≡ 0) × (at + length pages.old / 8 * 11 ≤ length img.now) }
     ensures { pages.new ≡ pages_of (fields_at (times (length pages.old) page_widths) img.now at (length pages.old / 8 * 11)) }
 {
+    // By number, as image_write's `put_pages`.
     for k in 0..pages.len() / 8 {
         let g = eight_of(eight_words(img, at + k * 11));
         pages[k * 8..k * 8 + 8].copy_from_slice(&g);

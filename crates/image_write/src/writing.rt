@@ -46,6 +46,8 @@ fn put_ram(img: &mut [u8; IMAGE_BYTES], ram: &[u8; 128])
     Cursor::at_byte(RAM_AT).put_bytes(img, ram);
 }
 
+// Here and below a range is asked as in sound_clock/src/clock.rt and memory/src/lib.rt: a host may lend any state, and write_image tests
+// it.
 fn put_out(img: &mut [u8; IMAGE_BYTES], x: f32)
     requires { OutInRange x }
     ensures { Wrote img.old img.new (byte_at out_at) (byte_at phases_at) (32 ∷ []) (to_bits binary32 x ∷ []) }
@@ -75,7 +77,6 @@ fn put_chip(img: &mut [u8; IMAGE_BYTES], chip: &Namco163)
     c.put(img, 18, banks_word(&chip.prg_banks));
 }
 
-// The ranges are asked as in sound_clock/src/clock.rt and memory/src/lib.rt: of any state that a host lends, write_image tests them.
 fn put_sound(img: &mut [u8; IMAGE_BYTES], audio: &Audio)
     requires { AudioInRange audio.now }
     ensures { Wrote img.old img.new (byte_at ram_at) (byte_at prg_pages_at)
@@ -98,7 +99,7 @@ fn put_memory(img: &mut [u8; IMAGE_BYTES], m: &Memory)
     Cursor::at_byte(LAYOUT_AT).put(img, 32, layout_word(m));
 }
 
-// The image of a state that is known to be in range.
+// The image of a state that is known to be in range, in the front of bytes of either length: cut to an array here, or by its caller.
 pub fn put_state(img: &mut [u8], s: &State)
     requires { (length img.old ≡ image_bytes) × Known s.now }
     ensures { img.new ≡ image_of s.now }
@@ -110,8 +111,8 @@ pub fn put_state(img: &mut [u8], s: &State)
     }
 }
 
-// The image of a state that is known to be in range, at the length of the lent bytes. That they hold it is asked here and of what calls
-// this: a type of bytes and state would borrow the image from its read to its write.
+// The image of a state that is known to be in range, at the length of the lent bytes. That they are long enough is asked, here and by its
+// callers, since a type of bytes and state would borrow the image from its read to its write.
 pub fn put_image(img: &mut [u8], s: State)
     requires { (room_for (option_set s) (length img.old) ≡ true) × Known s }
     ensures { img.new ≡ image_at (length img.old) s }

@@ -48,7 +48,8 @@ fn table_changes<const N: usize>(old: &[Page; N], new: &[Page; N]) -> Changes<u6
     }
 }
 
-// What changed between two PRG tables. The masks of the two tables are of two types, and no conversion serves both: u64 to u16 may fail.
+// What changed between two PRG tables. The masks of the two tables are of two types, and a conversion that serves both
+// may fail, so one function of the type would answer an option.
 #[tactic(auto, unfolding(crate::specs::Changes::prg_changes))]
 pub fn prg_changes(old: &[Page; 64], new: &[Page; 64]) -> Changes<u64>
     ensures { result ≡ prg_changes old.now new.now }

@@ -20,7 +20,7 @@ pub mod range; // range.rt: whether a memory is in range
 #[derive(Clone, Copy)]
 pub struct Memory {
     pub layout: Layout,
-    // How much of the battery reserve is used: a length alone, since the bytes lie in the arena.
+    // How much of the battery reserve is used, as R8 names it. A length without its bytes, since no crate of the archive allocates.
     pub battery_ext_len: usize,
     pub prg_pages: [Page; 64],
     pub chr_pages: [Page; 16],

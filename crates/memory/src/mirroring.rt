@@ -15,7 +15,7 @@ pub enum Mirroring {
 #[derive(Clone, Copy, Debug, PartialEq, Eq)]
 pub struct UnknownMirroring(pub u8);
 
-// No derive gives an enum's numbers, so each enum that C or an image numbers has its own two conversions.
+// No derive gives an enum's numbers, so each enum that C or an image numbers has its own conversions.
 impl From<Mirroring> for u8 {
     ghost from_gives = { λ m n. n ≡ mirroring_num m };
 

@@ -1,6 +1,6 @@
 // The bytes behind the page entries and in the regions. The arena is lent: a read borrows it and a write changes it, so it stands beside
-// the memory in each call, and one struct of both would have to come in a shared and an exclusive form: so `Backed` is asked of the two.
-// The Rust's calls of the two tables are a line each over an entry: one function of an entry would ask of it where it lies in the arena,
+// the memory in each call, and one struct of both would have to come in a shared and an exclusive form. So `Backed` is asked of the two.
+// The Rust's calls of the two tables are a line each over an entry. One function of an entry would ask of it where it lies in the arena,
 // which each caller would have to show.
 ghost use Rattle.std.specs.Prelude.{◌+◌, ◌^◌, ◌≤◌, ◌<◌, ◌≡◌, length, IfSome};
 ghost use Rattle.memory.specs.Memory.{region_in};
@@ -116,7 +116,8 @@ pub fn chr_write(m: Memory, arena: &mut [u8], addr: u16, val: u8)
     store(arena, stored_at(chr_entry(&m, addr), addr), val);
 }
 
-// Copies bytes over a part of the arena.
+// Copies bytes over a part of the arena: one call of std's, with this crate's definition. `copy_to` of bits and `put_battery` of
+// call_battery are the same call with theirs.
 fn overlay(arena: &mut [u8], at: usize, bytes: &[u8])
     requires { at + length bytes.now ≤ length arena.old }
     ensures { arena.new ≡ overlay arena.old at bytes.now }
@@ -149,7 +150,7 @@ pub fn fill(m: Memory, arena: &mut [u8], src: Src, bytes: &[u8])
     overlay(arena, m.region(src).start, bytes);
 }
 
-// The battery: PRG-RAM and the used part of the reserve behind it.
+// The battery: PRG-RAM and the used part of the reserve behind it. `Sized` is asked as in memory/src/lib.rt.
 pub fn sram(m: Memory) -> Span
     requires { Sized m }
     ensures { result ≡ sram_of m }

@@ -35,7 +35,7 @@ pub enum Call<'a> {
     Directory,
 }
 
-// The numbers behind the first ten spaces.
+// The numbers behind the first ten spaces. By number, since each is a word's number too and ends the rest where it is none.
 fn ten_numbers(line: &[u8]) -> Option<[u64; 10]> {
     let mut n = [0u64; 10];
     for i in 0..10 {

@@ -30,6 +30,7 @@ fn behind(line: &[u8], n: usize) -> &[u8]
     ensures { result.now ≡ behind n line.now }
 {
     let mut rest = line;
+    // So many times, with nothing to go over.
     for _ in 0..n {
         rest = after_space(rest);
     }

@@ -4,7 +4,7 @@ ghost use Rattle.std.specs.Prelude.{◌^◌, ◌≤◌, ◌<◌, ◌≡◌};
 ghost use Rattle.limits.specs.Limits.{out_most};
 ghost use Rattle.sound.specs.Levels.{whole_part};
 
-// The whole part of the float with these bits.
+// The whole part of the float with these bits. That they are at most those of 3825 is asked: an image's bits are any until a test of them.
 #[tactic(auto, unfolding(crate::specs::Levels::whole_part))]
 pub fn whole_part(bits: u32) -> u32
     requires { bits ≤ out_most }

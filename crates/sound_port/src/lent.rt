@@ -1,4 +1,4 @@
-// `step` does the work on a port by value. `read` is thin: it calls `step` on the lent port, and stores what comes back.
+// `step` does the work on a port by value and answers a struct, so that `read` is one thin function behind `&mut`, as F2 and F14 ask.
 ghost use Rattle.std.specs.Prelude.{◌≡◌};
 ghost use Rattle.sound_port.specs.Lent.{step_of, byte_of, after_read, port_of};
 
