@@ -10,17 +10,6 @@ pub struct Block {
 }
 
 impl Block {
-    // The parts of a place's word.
-    pub fn of_word(w: u64) -> Block
-        ensures { result ≡ block_of w }
-    {
-        Block {
-            start: (w >> 48) as u16,
-            len: ((w >> 32) % 0x1_0000) as u16,
-            number: (w % 0x1_0000_0000) as u32,
-        }
-    }
-
     // A block that can be registered.
     #[tactic(auto, unfolding(crate::specs::Block::fits))]
     pub fn registrable(start: u16, len: u64, number: u32) -> Option<Block>
@@ -36,16 +25,32 @@ impl Block {
     pub fn fits(self) -> bool
         ensures { result ≡ fits self.start self.len }
     {
-        let (start, len) = (self.start as u64, self.len as u64);
+        let (start, len) = (u64::from(self.start), u64::from(self.len));
         0x6000 <= start && 1 <= len && len <= 4096 && start + len <= 0x1_0000
     }
+}
 
-    pub fn word(self) -> u64
-        ensures { result ≡ word_of self.start self.len self.number }
-    {
-        self.start as u64 * 0x1_0000_0000_0000
-            + self.len as u64 * 0x1_0000_0000
-            + self.number as u64
+// The parts of a place's word.
+impl From<u64> for Block {
+    ghost from_gives = { λ w block. block ≡ block_of w };
+
+    fn from(w: u64) -> Block {
+        Block {
+            start: (w >> 48) as u16,
+            len: ((w >> 32) % 0x1_0000) as u16,
+            number: (w % 0x1_0000_0000) as u32,
+        }
+    }
+}
+
+// The word of a place that holds it.
+impl From<Block> for u64 {
+    ghost from_gives = { λ block w. w ≡ word_of block.start block.len block.number };
+
+    fn from(block: Block) -> u64 {
+        block.start as u64 * 0x1_0000_0000_0000
+            + block.len as u64 * 0x1_0000_0000
+            + block.number as u64
     }
 }
 
@@ -54,5 +59,5 @@ impl Block {
 pub fn holds(start: u16, w: u64) -> bool
     ensures { result ≡ holds start w }
 {
-    w != 0 && Block::of_word(w).start == start
+    w != 0 && Block::from(w).start == start
 }

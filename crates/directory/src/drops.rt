@@ -14,7 +14,7 @@ fn quiet(eight: &[u64; 8], touched: u64) -> bool
 {
     let seen = eight.iter().fold(
         0,
-        |seen, w| seen | touched >> (Block::of_word(*w).start / 1024),
+        |seen, w| seen | touched >> (Block::from(*w).start / 1024),
     );
     seen % 32 == 0
 }
@@ -46,7 +46,7 @@ pub fn some_goes(d: &[u64], touched: u64) -> bool
 }
 
 // Each block is taken out of its place, and put down behind those that stay if it stays too. By index: a place is read while one before it
-// is written.
+// is written, and j counts only the blocks that stay, so that no `for` counts it.
 pub fn take_out(d: &mut [u64], touched: u64)
     ensures { d.new ≡ dropped touched d.old }
 {

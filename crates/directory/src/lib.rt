@@ -39,9 +39,8 @@ pub fn register(d: &mut [u64], start: u16, len: u64, number: u32) -> Result<(), 
     ensures d_after { d.new ≡ registered d.old start len number }
 {
     checked(d, start)?;
-    let word = Block::registrable(start, len, number)
-        .ok_or(Refusal::Block)?
-        .word();
+    let block = Block::registrable(start, len, number).ok_or(Refusal::Block)?;
+    let word = u64::from(block);
     if let Some(place) = place_of(d, start) {
         d[place] = word;
         return Ok(());
@@ -71,7 +70,7 @@ pub fn lookup(d: &[u64], start: u16) -> Result<Option<Block>, Refusal>
 {
     checked(d, start)?;
     let w = find(d, start);
-    Ok((w != 0).then_some(Block::of_word(w)))
+    Ok((w != 0).then_some(Block::from(w)))
 }
 
 // Takes out each block over a CPU page whose bit is set.

@@ -10,7 +10,7 @@ use crate::block::Block;
 fn rises(s: u16, w: u64) -> bool
     ensures { result ≡ rises s w }
 {
-    let block = Block::of_word(w);
+    let block = Block::from(w);
     s < block.start && block.fits()
 }
 
@@ -25,12 +25,12 @@ fn climb(eight: &[u64; 8], s: u16) -> Option<u16>
     // no less than a length less one; large where a length is 0
     let mut far = 0;
     for w in eight {
-        let block = Block::of_word(*w);
+        let block = Block::from(*w);
         up &= last < block.start;
         last = block.start;
-        far |= (block.len as u64).wrapping_sub(1);
+        far |= u64::from(block.len).wrapping_sub(1);
     }
-    (up & (far < 4096) & (far < 0x1_0000 - last as u64)).then_some(last)
+    (up & (far < 4096) & (far < 0x1_0000 - u64::from(last))).then_some(last)
 }
 
 // The same of a directory's first eight places, and those behind them.
@@ -61,7 +61,7 @@ pub fn ordered(d: &[u64]) -> bool
             if !rises(s, *w) {
                 return all_free(rest);
             }
-            s = Block::of_word(*w).start;
+            s = Block::from(*w).start;
             rest = tail;
         }
     }

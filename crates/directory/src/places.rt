@@ -20,19 +20,18 @@ pub fn free_place(d: &[u64]) -> Option<usize>
     d.iter().position(|w| *w == 0)
 }
 
-// Puts a block where its start belongs. Each with a higher start moves up by a place, to the first free one. By index: the laws of a place
-// that is written are by its index.
+// Puts a block where its start belongs. Each with a higher start moves up by a place, to the first free one.
 pub fn put(d: &mut [u64], word: u64)
     ensures { d.new ≡ put word d.old }
 {
     let mut carried = word;
-    for i in 0..d.len() {
-        let w = d[i];
+    for place in d.iter_mut() {
+        let w = *place;
         if w == 0 {
-            d[i] = carried;
+            *place = carried;
             return;
         }
-        d[i] = carried.min(w);
+        *place = carried.min(w);
         carried = carried.max(w);
     }
 }
@@ -43,7 +42,7 @@ fn start_among(start: u16, eight: &[u64; 8]) -> bool
 {
     let mut found = false;
     for w in eight {
-        found |= Block::of_word(*w).start == start;
+        found |= Block::from(*w).start == start;
     }
     found
 }

@@ -57,7 +57,7 @@ pub fn namco163_lookup(directory: &[u64], start: u16) -> Result<Word, Refusal>
 pub fn namco163_find(directory: &[u64], start: u16) -> u64
     ensures { result ≡ host_find directory.now start }
 {
-    found_word(Block::of_word(find(directory, start))).bits
+    found_word(Block::from(find(directory, start))).bits
 }
 
 // A load with options that empties the directory too (K7). It reads neither image nor places. The steps before and after the load are

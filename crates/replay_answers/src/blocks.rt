@@ -24,7 +24,7 @@ pub fn directory(out: &mut Out, places: &[u64]) {
     out.put_all(b"ok");
     spaced(out, held as u64);
     for &place in places.iter().filter(|&&place| place != 0) {
-        let block = Block::of_word(place);
+        let block = Block::from(place);
         spaced_hex(out, &block.start.to_be_bytes());
         extent(out, block);
     }

@@ -16,11 +16,11 @@ returns-in_err-checked-clause-value c =
 
 pub returns-clause-value : goal.returns-clause-value
 returns-clause-value c =
-    rw (c.then_some.ensures, c.of_word.ensures, c.find-w.ensures)
+    rw (c.then_some.ensures, c.from.ensures, c.find-w.ensures)
     (lookup_ok c.args.d.now c.args.start (sym c.checked.ensures ∙ c.in_ok-checked.was))
 
 pub returns-clause-at_start : goal.returns-clause-at_start
 returns-clause-at_start c =
-    rw (c.then_some.ensures, c.of_word.ensures, c.find-w.ensures)
+    rw (c.then_some.ensures, c.from.ensures, c.find-w.ensures)
     (some_if (λ b. b.start ≡ c.args.start) _ (block_of (word_at c.args.start c.args.d.now))
     (λ y. word-start c.args.start c.args.d.now (eqb-false _ _ (not-true _ y))))

@@ -13,15 +13,15 @@ returns-then-not-fits c = sym (passed-unfit c.loop-w.invariant (omega arith) _ r
 pub returns-then-note : goal.returns-then-note
 returns-then-note c =
     sym (passed-twice c.loop-w.invariant (omega arith) _ refl c.if-w-ne0.true (search rules)
-    (sym (rw c.of_word-block.ensures at c.note.ensures.value) ∙ c.if-note.true))
+    (sym (rw c.from-block.ensures at c.note.ensures.value) ∙ c.if-note.true))
 
 pub loop-w-preserved : goal.loop-w-preserved
 loop-w-preserved c =
     elim c.if-w-ne0.branch [
       | then-w-ne0+else-not-fits+else-note w ↦
-          rw (w.seen-is, w.note.ensures.seen_after, w.of_word-block.ensures)
+          rw (w.seen-is, w.note.ensures.seen_after, w.from-block.ensures)
           (passed-held c.loop-w.invariant (omega arith) _ refl w.if-w-ne0.true (search rules)
-          (sym (rw w.of_word-block.ensures at w.note.ensures.value) ∙ w.if-note.false))
+          (sym (rw w.from-block.ensures at w.note.ensures.value) ∙ w.if-note.false))
       | else-w-ne0 w ↦ rw w.seen-is (passed-free c.loop-w.invariant (omega arith) w.if-w-ne0.false)
     ]
 

@@ -14,7 +14,7 @@ pub loop-w-preserved : goal.loop-w-preserved
 loop-w-preserved c =
     let e : c.loop-w.rest.now ≡ c.in-Some.w.now ∷ c.in-Some.tail.now = search rules in
     let r : rises c.loop-w.s c.in-Some.w.now ≡ true = search rules in
-    rw c.of_word-s.ensures
+    rw c.from-s.ensures
     (omega (arith, c.loop-w.invariant.0, (rises-says _ _ r).above), ordered_next c.loop-w.s c.loop-w.invariant.1 e r)
 
 pub returns : goal.returns

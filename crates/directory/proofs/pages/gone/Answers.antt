@@ -9,7 +9,7 @@ pub returns-then-w-ne0 : goal.returns-then-w-ne0
 unfolding gone
 returns-then-w-ne0 c =
     rw (ne_eqb _ _ c.if-w-ne0.true)
-    (sym (goes-bits c.args.touched (start_of c.args.w) (len_of c.args.w) c.pages_under.result (search rules) (rw c.of_word.ensures at c.pages_under.ensures.bits)))
+    (sym (goes-bits c.args.touched (start_of c.args.w) (len_of c.args.w) c.pages_under.result (search rules) (rw c.from.ensures at c.pages_under.ensures.bits)))
 
 pub returns-else-w-ne0 : goal.returns-else-w-ne0
 unfolding gone

@@ -2,5 +2,5 @@
 use Rattle.directory.proofs.Laws.Put.{Putting}
 use Rattle.directory.proofs.places.put.Given as goal
 
-abbrev pub invariant-loop-i : goal.invariant-loop-i
-invariant-loop-i l = Putting l.word l.initial.d l.carried l.i l.d
+abbrev pub invariant-loop-place : goal.invariant-loop-place
+invariant-loop-place l = Putting l.word l.initial.d l.carried l.place-index l.d

@@ -13,7 +13,7 @@ loop-w-init c = refl
 pub loop-w-preserved : goal.loop-w-preserved
 loop-w-preserved c =
     let l : length c.args.eight.now ≡ 8 = search rules in
-    rw (take_more c.args.eight.now c.loop-w.w-index 0 (omega arith), c.of_word.ensures, c.loop-w.invariant)
+    rw (take_more c.args.eight.now c.loop-w.w-index 0 (omega arith), c.from.ensures, c.loop-w.invariant)
     (sym (any_more (λ w. eqb (start_of w) c.args.start) (take c.loop-w.w-index c.args.eight.now) _))
 
 pub returns : goal.returns

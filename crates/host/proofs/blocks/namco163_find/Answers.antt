@@ -5,4 +5,4 @@ use Rattle.host.proofs.blocks.namco163_find.Goals as goal
 
 pub returns : goal.returns
 unfolding host_find
-returns c = rw (c.found_word.ensures, c.of_word.ensures, c.find.ensures) (omega arith)
+returns c = rw (c.found_word.ensures, c.from.ensures, c.find.ensures) (omega arith)
