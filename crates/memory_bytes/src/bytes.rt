@@ -11,8 +11,9 @@ ghost use Rattle.memory_bytes.specs.Bytes.{prg_peek, prg_write, chr_peek, chr_wr
 ghost use Rattle.memory_bytes.specs.Bytes.{overlay, fill_region, sram_of};
 
 use memory::Memory;
-use memory::layout::{Region, Src};
+use memory::layout::Src;
 use memory::page::Page;
+use memory::region::Region;
 
 // A stretch of the arena.
 #[derive(Clone, Copy)]
@@ -54,7 +55,6 @@ pub fn stored_at(page: Page, addr: u16) -> Option<usize>
 
 // Where in the arena an offset of a region lies, which wraps, if the region has a byte.
 pub fn wrapped_at(region: Region, offset: u64) -> Option<usize>
-    requires { region.start + region.len < 2 ^ 63 }
     ensures { place result ≡ wrapped_at region offset }
 {
     if region.len == 0 {
