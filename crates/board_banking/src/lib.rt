@@ -21,11 +21,11 @@ fn slot_pages(pages: &mut [Page; 16], region: Region, slot: u16, bank: u8)
 {
     let size = Namco163::CHR_WINDOW;
     let addr = slot * size as u16;
-    map_pages(pages, addr, size, bank as i32, region);
+    map_pages(pages, addr, size, i32::from(bank), region);
     if slot < 8 {
         return;
     }
-    map_pages(pages, addr + 0x1000, size, bank as i32, region);
+    map_pages(pages, addr + 0x1000, size, i32::from(bank), region);
 }
 
 // The region that a CHR slot shows.
@@ -44,7 +44,7 @@ fn map_slots(chip: &Namco163, m: &mut Memory, n: u16)
     let nametables = m.region(Src::CiRam);
     let pages = &mut m.chr_pages;
     for slot in 0..n {
-        let i = slot as usize;
+        let i = usize::from(slot);
         let region = slot_region(chip.nt_bank_enable[i], chr, nametables);
         slot_pages(pages, region, slot, chip.chr_banks[i]);
     }
@@ -68,7 +68,7 @@ fn map_bank(m: &mut Memory, addr: u16, bank: u8)
     requires { Sized m.old }
     ensures { (m.new ≡ map_bank m.old addr bank) × (Sized m.new) }
 {
-    map_prg(m, addr, Namco163::PRG_WINDOW, bank as i32, Src::PrgRom);
+    map_prg(m, addr, Namco163::PRG_WINDOW, i32::from(bank), Src::PrgRom);
 }
 
 fn map_rom(chip: &Namco163, m: &mut Memory)

@@ -2,7 +2,7 @@
 // the memory in each call, and one struct of both would have to come in a shared and an exclusive form: so `Backed` is asked of the two.
 // The Rust's calls of the two tables are a line each over an entry: one function of an entry would ask of it where it lies in the arena,
 // which each caller would have to show.
-ghost use Rattle.std.specs.Prelude.{◌+◌, ◌^◌, ◌≤◌, ◌<◌, ◌≡◌, length, IfSome};
+ghost use Rattle.std.specs.Prelude.{◌+◌, ◌≤◌, ◌<◌, ◌≡◌, length, IfSome};
 ghost use Rattle.memory.specs.Memory.{region_in};
 ghost use Rattle.memory.specs.Range.{Sized};
 ghost use Rattle.memory.specs.Page.{offset_of};
@@ -26,14 +26,14 @@ pub struct Span {
 pub fn prg_entry(m: &Memory, addr: u16) -> Page
     ensures { result ≡ prg_entry m.now addr }
 {
-    m.prg_pages[(addr / 1024) as usize]
+    m.prg_pages[usize::from(addr / 1024)]
 }
 
 // The entry of a PPU address, which counts by its remainder.
 pub fn chr_entry(m: &Memory, addr: u16) -> Page
     ensures { result ≡ chr_entry m.now addr }
 {
-    m.chr_pages[(addr / 1024 % 16) as usize]
+    m.chr_pages[usize::from(addr / 1024 % 16)]
 }
 
 // Where in the arena an address of a page lies.

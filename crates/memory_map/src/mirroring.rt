@@ -1,5 +1,5 @@
 // Nametable mirroring: which CIRAM page each nametable shows.
-ghost use Rattle.std.specs.Prelude.{◌+◌, ◌%◌, ◌^◌, ◌≤◌, ◌<◌, ◌≡◌, get_or};
+ghost use Rattle.std.specs.Prelude.{◌%◌, ◌≤◌, ◌≡◌, get_or};
 ghost use Rattle.memory.specs.Range.{Sized};
 ghost use Rattle.memory_map.specs.Mirroring.{ciram_banks, nametable_page, set_mirroring};
 

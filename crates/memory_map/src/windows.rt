@@ -65,7 +65,7 @@ pub fn map_pages<const N: usize>(
         requires { base + 1024 * i < 2 ^ 64 }
         ensures { result ≡ region_page region (base + 1024 * i) }
     { region_page(region, base + 1024 * i) };
-    each_page(pages, (addr / 1024) as usize, size / 1024, shown);
+    each_page(pages, usize::from(addr / 1024), size / 1024, shown);
 }
 
 // Maps a window of the CPU's address space to a bank of a region.
@@ -84,7 +84,7 @@ pub fn unmap_prg(m: &mut Memory, addr: u16, size: usize)
 {
     each_page(
         &mut m.prg_pages,
-        (addr / 1024) as usize,
+        usize::from(addr / 1024),
         size / 1024,
         |_, _| Page::UNMAPPED,
     );
@@ -97,7 +97,7 @@ pub fn set_prg_writable(m: &mut Memory, addr: u16, size: usize, writable: bool)
 {
     each_page(
         &mut m.prg_pages,
-        (addr / 1024) as usize,
+        usize::from(addr / 1024),
         size / 1024,
         |_, page| with_flag(page, writable),
     );

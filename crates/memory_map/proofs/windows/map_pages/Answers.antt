@@ -21,4 +21,5 @@ returns g c =
       c.window_base-base.ensures.0,
       to_z-of_z c.ranges.bank,
       ap (λ (r : Region). r.len) c.region.view_is,
+      c.from.ensures,
     )
