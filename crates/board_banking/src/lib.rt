@@ -8,28 +8,28 @@ ghost use Rattle.board_banking.specs.Banking.{slot_pages, map_slots, map_chr_tab
 
 use board_chip::namco163::Namco163;
 use memory::Memory;
-use memory::layout::{Region, Src};
+use memory::layout::Src;
 use memory::page::Page;
+use memory::region::Region;
 use memory_map::mirroring::set_mirroring;
 use memory_map::windows::{map_pages, map_prg, set_prg_writable, unmap_prg};
 
 // A slot of the PPU's table shows a bank of a region, a nametable at $3000 too.
 fn slot_pages(pages: &mut [Page; 16], region: Region, slot: u16, bank: u8)
-    requires { (region.start + region.len ≤ arena_most) × (slot < 12) }
+    requires { slot < 12 }
     ensures { pages.new ≡ slot_pages region slot bank pages.old }
 {
     let size = Namco163::CHR_WINDOW;
     let addr = slot * size as u16;
-    map_pages(pages, addr, size, bank as i32, region);
+    map_pages(pages, addr, size, i32::from(bank), region);
     if slot < 8 {
         return;
     }
-    map_pages(pages, addr + 0x1000, size, bank as i32, region);
+    map_pages(pages, addr + 0x1000, size, i32::from(bank), region);
 }
 
 // The region that a CHR slot shows.
 fn slot_region(ciram: bool, chr: Region, nametables: Region) -> Region
-    requires { (chr.start + chr.len ≤ arena_most) × (nametables.start + nametables.len ≤ arena_most) }
     ensures { (result ≡ cond ciram nametables chr) × (result.start + result.len ≤ arena_most) }
 {
     if ciram { nametables } else { chr }
@@ -44,7 +44,7 @@ fn map_slots(chip: &Namco163, m: &mut Memory, n: u16)
     let nametables = m.region(Src::CiRam);
     let pages = &mut m.chr_pages;
     for slot in 0..n {
-        let i = slot as usize;
+        let i = usize::from(slot);
         let region = slot_region(chip.nt_bank_enable[i], chr, nametables);
         slot_pages(pages, region, slot, chip.chr_banks[i]);
     }
@@ -68,7 +68,7 @@ fn map_bank(m: &mut Memory, addr: u16, bank: u8)
     requires { Sized m.old }
     ensures { (m.new ≡ map_bank m.old addr bank) × (Sized m.new) }
 {
-    map_prg(m, addr, Namco163::PRG_WINDOW, bank as i32, Src::PrgRom);
+    map_prg(m, addr, Namco163::PRG_WINDOW, i32::from(bank), Src::PrgRom);
 }
 
 fn map_rom(chip: &Namco163, m: &mut Memory)

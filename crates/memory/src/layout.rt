@@ -4,6 +4,7 @@ ghost use Rattle.limits.specs.Limits.{arena_most};
 ghost use Rattle.memory.specs.Layout.{within_limits, pages_for, ciram_bytes, layout_of, first_page, arena_len, region_of};
 ghost use Rattle.memory.specs.Range.{GoodLayout};
 
+use crate::region::Region;
 use limits::{BATTERY_LIMIT, CHR_LIMIT, CIRAM_LIMIT, PRG_RAM_LIMIT, PRG_ROM_LIMIT};
 
 // Sizes of the regions in bytes, as the host gives them.
@@ -36,14 +37,6 @@ pub enum Src {
     BatteryExt,
     Chr,
     CiRam,
-}
-
-// A region of the arena, in bytes. That it lies in an arena is asked where it is needed: any two lengths make a region.
-#[derive(Clone, Copy)]
-pub struct Region {
-    pub start: usize,
-    pub len: usize,
-    pub writable: bool,
 }
 
 impl MemoryLayout {

@@ -8,8 +8,9 @@ ghost use Rattle.memory.specs.Range.{Sized};
 
 use crate::table::each_page;
 use memory::Memory;
-use memory::layout::{Region, Src};
+use memory::layout::Src;
 use memory::page::Page;
+use memory::region::Region;
 
 // How many windows a region has, at least one.
 fn banks(len: usize, size: usize) -> usize
@@ -30,7 +31,6 @@ fn window_base(len: usize, size: usize, bank: i32) -> usize
 // The page at an offset of a region, which wraps.
 #[tactic(auto, unfolding(crate::specs::Windows::region_page))]
 fn region_page(region: Region, offset: usize) -> Page
-    requires { region.start + region.len < 2 ^ 30 }
     ensures { result ≡ region_page region offset }
 {
     if region.len == 0 {
@@ -57,15 +57,15 @@ pub fn map_pages<const N: usize>(
     bank: i32,
     region: Region,
 )
-    requires { (0 < N) × (N ≤ 64) × (region.start + region.len ≤ arena_most) × (0 < size) }
+    requires { (0 < N) × (N ≤ 64) × (0 < size) }
     ensures { pages.new ≡ map_pages N region size bank (addr / 1024) pages.old }
 {
     let base = window_base(region.len, size, bank);
     let shown = |i: usize, _: Page|
-        requires { (region.start + region.len < 2 ^ 30) × (base + 1024 * i < 2 ^ 64) }
+        requires { base + 1024 * i < 2 ^ 64 }
         ensures { result ≡ region_page region (base + 1024 * i) }
     { region_page(region, base + 1024 * i) };
-    each_page(pages, (addr / 1024) as usize, size / 1024, shown);
+    each_page(pages, usize::from(addr / 1024), size / 1024, shown);
 }
 
 // Maps a window of the CPU's address space to a bank of a region.
@@ -84,7 +84,7 @@ pub fn unmap_prg(m: &mut Memory, addr: u16, size: usize)
 {
     each_page(
         &mut m.prg_pages,
-        (addr / 1024) as usize,
+        usize::from(addr / 1024),
         size / 1024,
         |_, _| Page::UNMAPPED,
     );
@@ -97,7 +97,7 @@ pub fn set_prg_writable(m: &mut Memory, addr: u16, size: usize, writable: bool)
 {
     each_page(
         &mut m.prg_pages,
-        (addr / 1024) as usize,
+        usize::from(addr / 1024),
         size / 1024,
         |_, page| with_flag(page, writable),
     );

@@ -10,9 +10,9 @@ unfolding map_slots
 loop-slot-init c = refl
 
 pub loop-slot-preserved : goal.loop-slot-preserved
-loop-slot-preserved c = rw c.slot_pages.ensures
+loop-slot-preserved c = rw (c.slot_pages.ensures, c.from-i.ensures)
     (slot-more c.args.chip.now c.loop-slot.slot c.args.m.now c.loop-slot.pages _ _ _ c.region-chr.ensures.0
-    c.region-nametables.ensures.0 c.slot_region-region.ensures.0 c.loop-slot.invariant)
+    c.region-nametables.ensures.0 (rw c.from-i.ensures at c.slot_region-region.ensures.0) c.loop-slot.invariant)
 
 pub returns : goal.returns
 returns c = (

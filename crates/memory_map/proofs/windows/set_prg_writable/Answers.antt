@@ -9,4 +9,4 @@ pub returns : goal.returns
 unfolding set_prg_writable set_writable
 returns c =
     let step : ℕ → Page → Page = λ i old. with_flag c.args.writable old in
-    (rw (c.each_page.ensures step (λ i old new h e. search rules)), record { layout = c.requires.layout; used = c.requires.used })
+    (rw (c.each_page.ensures step (λ i old new h e. search rules), c.from.ensures), record { layout = c.requires.layout; used = c.requires.used })

@@ -10,4 +10,4 @@ pub returns : goal.returns
 unfolding unmap_prg unmap_pages
 returns c =
     let step : ℕ → Page → Page = λ i old. unmapped in
-    (rw (c.each_page.ensures step (λ i old new h e. search rules)), record { layout = c.requires.layout; used = c.requires.used })
+    (rw (c.each_page.ensures step (λ i old new h e. search rules), c.from.ensures), record { layout = c.requires.layout; used = c.requires.used })
