@@ -35,7 +35,7 @@ fn slot_region(ciram: bool, chr: Region, nametables: Region) -> Region
     if ciram { nametables } else { chr }
 }
 
-// The first n slots.
+// The first n slots, by number: it is a slot's place in three arrays and its address.
 fn map_slots(chip: &Namco163, m: &mut Memory, n: u16)
     requires { (Sized m.old) × (n ≤ 12) }
     ensures { (m.new ≡ map_slots chip.now n m.old) × (Sized m.new) }

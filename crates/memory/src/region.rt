@@ -9,7 +9,7 @@ pub struct Region {
     pub writable: bool,
 }
 
-// A clause sees a record of the same fields: one with the fact in it would have no value for a layout out of range, of which specs/ speaks too.
+// A clause sees a record of the same fields, since specs/ speaks of layouts out of range too, whose regions have no such fact.
 impl Model for Region {
     ghost use Rattle.std.specs.Prelude.{◌+◌, ◌≤◌};
     ghost use Rattle.limits.specs.Limits.{arena_most};
