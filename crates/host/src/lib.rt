@@ -11,7 +11,8 @@ ghost use Rattle.board_state.specs.State.{no_options};
 ghost use Rattle.refusals.specs.Refusal.{refusal_of, word_of};
 ghost use Rattle.host.specs.Host.{sizes_of, options_of, host_load, host_reset, host_read, host_write, host_run};
 
-use crate::load::{load_image, options_of, sizes_of};
+use crate::load::{load_image, sizes_of};
+use board_state::Options;
 use call_load::Cartridge;
 use host_preview::preview_on;
 use host_state::{read_on, reset_on, run_on, write_on};
@@ -55,12 +56,10 @@ pub fn namco163_load(
         chr_ram,
         ciram,
         0,
-        0,
-        0,
     )
 }
 
-// The same with the options of L19 and S13, each 0 for no.
+// The same with the options of L19, each 0 for no.
 pub fn namco163_load_options(
     image: &mut [u8],
     arena: &mut [u8],
@@ -75,15 +74,13 @@ pub fn namco163_load_options(
     chr_ram: u64,
     ciram: u64,
     f800_protects: u64,
-    signed_levels: u64,
-    plain_sum: u64,
 ) -> Result<(), Refusal>
     ensures value { refusal_of result ≡ (host_load image.old arena.old mapper submapper flags in_database
-        (sizes_of prg_rom prg_ram battery chr chr_ram ciram) (options_of f800_protects signed_levels plain_sum)).word }
+        (sizes_of prg_rom prg_ram battery chr chr_ram ciram) (options_of f800_protects)).word }
     ensures image_after { image.new ≡ (host_load image.old arena.old mapper submapper flags in_database
-        (sizes_of prg_rom prg_ram battery chr chr_ram ciram) (options_of f800_protects signed_levels plain_sum)).image }
+        (sizes_of prg_rom prg_ram battery chr chr_ram ciram) (options_of f800_protects)).image }
     ensures arena_after { arena.new ≡ (host_load image.old arena.old mapper submapper flags in_database
-        (sizes_of prg_rom prg_ram battery chr chr_ram ciram) (options_of f800_protects signed_levels plain_sum)).lent }
+        (sizes_of prg_rom prg_ram battery chr chr_ram ciram) (options_of f800_protects)).lent }
 {
     let cartridge = Cartridge {
         mapper,
@@ -91,7 +88,9 @@ pub fn namco163_load_options(
         flags,
         known: in_database != 0,
         sizes: sizes_of(prg_rom, prg_ram, battery, chr, chr_ram, ciram),
-        options: options_of(f800_protects, signed_levels, plain_sum),
+        options: Options {
+            f800_protects: f800_protects != 0,
+        },
     };
     load_image(image, arena, cartridge)
 }

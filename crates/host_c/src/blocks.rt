@@ -50,20 +50,15 @@ pub extern "C" fn namco163_load_blocks(
     chr_ram: u64,
     ciram: u64,
     f800_protects: u64,
-    signed_levels: u64,
-    plain_sum: u64,
 ) -> u64
     ensures value { result ≡ (host_load_blocks image.old arena.old directory.old mapper submapper flags
-        in_database (sizes_of prg_rom prg_ram battery chr chr_ram ciram)
-        (options_of f800_protects signed_levels plain_sum)).word }
+        in_database (sizes_of prg_rom prg_ram battery chr chr_ram ciram) (options_of f800_protects)).word }
     ensures image_after { image.new ≡ (host_load_blocks image.old arena.old directory.old mapper
-        submapper flags in_database (sizes_of prg_rom prg_ram battery chr chr_ram ciram)
-        (options_of f800_protects signed_levels plain_sum)).image }
+        submapper flags in_database (sizes_of prg_rom prg_ram battery chr chr_ram ciram) (options_of f800_protects)).image }
     ensures arena_after { arena.new ≡ (host_load_blocks image.old arena.old directory.old mapper
-        submapper flags in_database (sizes_of prg_rom prg_ram battery chr chr_ram ciram)
-        (options_of f800_protects signed_levels plain_sum)).lent }
+        submapper flags in_database (sizes_of prg_rom prg_ram battery chr chr_ram ciram) (options_of f800_protects)).lent }
     ensures directory_after { directory.new ≡ host_load_places image.old arena.old directory.old mapper
-        (sizes_of prg_rom prg_ram battery chr chr_ram ciram) (options_of f800_protects signed_levels plain_sum) }
+        (sizes_of prg_rom prg_ram battery chr chr_ram ciram) (options_of f800_protects) }
 {
     u64::from(refusal_of(&host::blocks::namco163_load_blocks(
         image,
@@ -80,8 +75,6 @@ pub extern "C" fn namco163_load_blocks(
         chr_ram,
         ciram,
         f800_protects,
-        signed_levels,
-        plain_sum,
     )))
 }
 

@@ -44,25 +44,20 @@ fn ten_numbers(line: &[u8]) -> Option<[u64; 10]> {
     Some(n)
 }
 
-// The options of an image's byte by an eleventh number, if there is one; five bits of the byte mean nothing.
-fn parse_options(line: &[u8]) -> Option<Options> {
-    let byte = if spaces(line) == 10 {
-        0
-    } else {
-        parse_number(word(line, 11))?
-    };
-    if 0xFF < byte || byte % 32 != 0 {
-        return None;
+// Whether F800 protects, by an eleventh number, if there is one: the options of an image's byte.
+fn parse_options(line: &[u8]) -> Option<bool> {
+    if spaces(line) == 10 {
+        return Some(false);
     }
-    Some(Options {
-        f800_protects: byte / 128 == 1,
-        signed_levels: byte / 64 % 2 == 1,
-        plain_sum: byte / 32 % 2 == 1,
-    })
+    match parse_number(word(line, 11))? {
+        0 => Some(false),
+        0x80 => Some(true),
+        _ => None,
+    }
 }
 
 fn load(line: &[u8]) -> Option<Cartridge> {
-    let options = parse_options(line)?;
+    let f800_protects = parse_options(line)?;
     let [
         mapper,
         submapper,
@@ -88,7 +83,7 @@ fn load(line: &[u8]) -> Option<Cartridge> {
             chr_writable: chr_writable != 0,
             ciram,
         },
-        options,
+        options: Options { f800_protects },
     })
 }
 

@@ -1,13 +1,13 @@
 -- What is promised, as theorems, for a reader who opens one file: each statement is over definitions of specs/, and its proof cites where
 -- it is shown. The public calls are contracted by the same definitions (crates/call_*/src, crates/image_*/src, crates/host/src) and have no
 -- `requires`; only functions beside them have one, as the variants `.._known` for a state that is known to be in range.
-use Prim.Native.Nat.{ℕ, ◌+◌, ◌-◌, ◌^◌, ◌≤◌, ◌<◌}
+use Prim.Native.Nat.{ℕ, ◌+◌, ◌^◌, ◌≤◌, ◌<◌}
 use mathlib.Core.Path.{◌≡◌, refl}
 use mathlib.Core.Bool.{Bool, true, false, not, ◌&&◌}
 use mathlib.Core.List.{List, [], ◌∷◌, ◌++◌}
 use mathlib.Core.Logic.{◌⊎◌, ◌↔◌}
 use lib.Ieee.{Float}
-use lib.ListN.{length, drop}
+use lib.ListN.{length}
 use Rattle.cut.specs.Always.{AllTyped, NeverRefused}
 use Rattle.cut.specs.Calls.{Call, other, refused, answered, start, outline, all_clocks}
 use Rattle.cut.specs.Demand3.{observed, FirstRise}
@@ -15,12 +15,6 @@ use Rattle.cut.specs.Machine.{machine}
 use Rattle.memory.specs.declared.Memory.{Memory}
 use Rattle.memory.specs.declared.layout.MemoryLayout.{MemoryLayout}
 use Rattle.memory.specs.Range.{MemoryTyped, Bytes}
-use Rattle.sound.specs.declared.audio.Audio.{Audio}
-use Rattle.sound.specs.Range.{Known as AudioKnown}
-use Rattle.sound_wave.specs.Channel.{channel_count}
-use Rattle.sound_wave.specs.Mix.{Wholes, total, exact_out}
-use Rattle.sound_clock.specs.Clock.{update_channel}
-use Rattle.sound_clock.proofs.Range.Clock.{update-exact}
 use Rattle.board_chip.specs.declared.namco163.Board.{Board}
 use Rattle.board_chip.specs.declared.namco163.Namco163.{Namco163}
 use Rattle.board_chip.specs.Load.{mirroring_at_load}
@@ -31,7 +25,7 @@ use Rattle.board_protection.specs.Protection.{remap_banks, remaps_in, FlagsAlone
 use Rattle.board_protection.proofs.Laws.{flags-alone, old-tables, old-writes, other-tables, other-writes}
 use Rattle.board_state.specs.declared.Options.{Options}
 use Rattle.board_state.specs.declared.State.{State}
-use Rattle.board_state.specs.State.{options_in, Known}
+use Rattle.board_state.specs.State.{Known}
 use Rattle.call_refusals.specs.Refusals.{first_of, kind_check}
 use Rattle.call_idle.specs.Idle.{idle, counted}
 use Rattle.call_run.specs.Clock.{state_clock}
@@ -55,9 +49,7 @@ use Rattle.thm_machine.specs.Counter.{counter_of, line_of, NoneTouches}
 use Rattle.thm_machine.proofs.Demand3 as Machine
 use Rattle.thm_range.specs.Fit.{Fit}
 use Rattle.thm_range.proofs.Lists.{always-fit, never-2-or-7}
-use Rattle.thm_range.specs.Zero.{NeverMinusZero}
 use Rattle.thm_range.proofs.Options.{always-options}
-use Rattle.thm_range.proofs.Zero.{never-minus-zero}
 use Rattle.thm_range.proofs.Refused.{other-refused}
 use Rattle.thm_steps.proofs.Banking.{update-banks-kept}
 use Rattle.idle_runs.specs.Idle.{Still, Least}
@@ -197,23 +189,12 @@ type-fixed = stays-fixed
 pub type-at-load : TypeOfLoad
 type-at-load = type-of-load
 
--- ---- L19, S17: the options are the load's after every list of calls, resets of both kinds and battery restores among them
-
-pub options-kept : (l : Loaded) (calls : List (Call Float Other)) → options_in (observed board calls (loaded l)).state.state ≡ l.options
-options-kept = always-options
-
--- ---- S7, S15: after an update `out` is that of the exact sum of the channels in use; S16: no output, `out` or sample is negative zero
-
-pub exact-out : (a : Audio) → AudioKnown a → (w : Wholes a.signed_levels (update_channel a).channel_out) → let c = channel_count a.ram in
-    (update_channel a).out ≡ exact_out (total (drop (7 - c) w.numbers)) c a.plain_sum
-exact-out = update-exact
-
-pub no-negative-zero : (l : Loaded) → l.submapper < 2 ^ 8 → (calls : List (Call Float Other)) → AllTyped CallTyped calls
-    → NeverMinusZero (observed board calls (loaded l))
-no-negative-zero = never-minus-zero
-
--- ---- L19 to L21: where F800 does not protect, page tables are made by the Rust's
+-- ---- L19 to L21: the options are the load's after every list of calls; where F800 does not protect, page tables are made by the Rust's
 -- rules and when the Rust makes them, and so on a board that is no 163; on a 163 they differ in flags of work RAM alone (W12: D2.2)
+
+pub options-kept : (l : Loaded) (calls : List (Call Float Other))
+    → (observed board calls (loaded l)).state.state.f800_protects ≡ l.options.f800_protects
+options-kept = always-options
 
 pub old-edition : (n : Namco163) (m : Memory) (old new : Board) (a : ℕ)
     → (remap_banks false n m ≡ update_banks n m) × (remaps_in false old new a ≡ remaps old new a)

@@ -7,4 +7,3 @@ pub mod Options
 pub mod Runs
 pub mod Images
 pub mod Numbers
-pub mod Zero

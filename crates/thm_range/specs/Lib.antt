@@ -1,3 +1,2 @@
 -- A known state and its arena.
 pub mod Fit
-pub mod Zero

@@ -3,4 +3,3 @@ pub mod Chip
 pub mod Banking
 pub mod Protection
 pub mod Clock
-pub mod Choice

@@ -63,8 +63,7 @@ unsafe fn load_call(load: &Load, (image, image_len): (Bytes, usize), (arena, are
 }
 
 unsafe fn load_options_call(load: &Load, (image, image_len): (Bytes, usize), (arena, arena_len): (Bytes, usize)) -> u64 {
-    let Load { mapper, submapper, flags, in_database, prg_rom, prg_ram, battery, chr, chr_ram, ciram, .. } = *load;
-    let Load { f800_protects, signed_levels, plain_sum, .. } = *load;
+    let Load { mapper, submapper, flags, in_database, prg_rom, prg_ram, battery, chr, chr_ram, ciram, f800_protects } = *load;
     unsafe {
         namco163_load_options(
             image,
@@ -82,8 +81,6 @@ unsafe fn load_options_call(load: &Load, (image, image_len): (Bytes, usize), (ar
             chr_ram,
             ciram,
             f800_protects,
-            signed_levels,
-            plain_sum,
         )
     }
 }
@@ -94,8 +91,7 @@ unsafe fn load_blocks_call(
     (arena, arena_len): (Bytes, usize),
     (places, count): (*mut u64, usize),
 ) -> u64 {
-    let Load { mapper, submapper, flags, in_database, prg_rom, prg_ram, battery, chr, chr_ram, ciram, .. } = *load;
-    let Load { f800_protects, signed_levels, plain_sum, .. } = *load;
+    let Load { mapper, submapper, flags, in_database, prg_rom, prg_ram, battery, chr, chr_ram, ciram, f800_protects } = *load;
     unsafe {
         namco163_load_blocks(
             image,
@@ -115,8 +111,6 @@ unsafe fn load_blocks_call(
             chr_ram,
             ciram,
             f800_protects,
-            signed_levels,
-            plain_sum,
         )
     }
 }

@@ -5,7 +5,6 @@
 
 mod banking;
 mod blocks;
-mod levels;
 mod loads;
 mod memory;
 mod previews;
@@ -16,7 +15,6 @@ mod runs;
 use crate::{
     directory::Directory,
     layout::{Layout, PAGE, Region},
-    options::Options,
     player::Player,
     session::Session,
     text::Call,
@@ -33,7 +31,8 @@ struct View {
     chip: Namco163,
     layout: Layout,
     used: usize,
-    options: Options,
+    /// L19: of the new edition.
+    f800_protects: bool,
     prg: [Page; 64],
     chr: [Page; 16],
     arena: Vec<u8>,
@@ -48,7 +47,7 @@ impl View {
             chip: session.chip.clone(),
             layout: session.layout(),
             used: *session.memory.raw_battery_ext_len(),
-            options: session.options,
+            f800_protects: session.f800_protects,
             prg: *session.memory.prg_pages(),
             chr: *session.memory.chr_pages(),
             arena: session.arena().into(),
@@ -157,9 +156,8 @@ impl Counter<'_> {
 type Classes = fn() -> Vec<String>;
 type Observe = fn(&Played, &mut Counter);
 
-const AREAS: [(Classes, Observe); 9] = [
+const AREAS: [(Classes, Observe); 8] = [
     (loads::classes, loads::observe),
-    (levels::classes, levels::observe),
     (banking::classes, banking::observe),
     (protection::classes, protection::observe),
     (previews::classes, previews::observe),

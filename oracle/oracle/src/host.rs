@@ -10,7 +10,6 @@ use crate::{
     directory::Directory,
     image::{self, LENGTHS},
     layout::Load,
-    options::Options,
     refusal::Refusal,
     session::{Ran, Session, Written},
 };
@@ -43,7 +42,7 @@ pub struct Host {
 impl Host {
     /// Lends a state, in range, with its arena, by the shortest image that can hold it.
     pub fn new(session: Session) -> Self {
-        let len = image::lengths(session.options)[0];
+        let len = image::lengths(&session)[0];
         Self::of_length(session, len)
     }
 
@@ -86,7 +85,7 @@ impl Host {
     /// can hold it.
     pub fn edit(&mut self, change: impl FnOnce(&mut Session)) {
         change(&mut self.session);
-        let lengths = image::lengths(self.session.options);
+        let lengths = image::lengths(&self.session);
         let len = if lengths.contains(&self.image.len()) { self.image.len() } else { lengths[0] };
         self.image = image::of_length(&self.session, len);
         self.unread = None;
@@ -100,7 +99,7 @@ impl Host {
     fn accepted(&mut self, call: HostCall) -> Result<u64, Refusal> {
         self.refuse_length()?;
         let word = match call {
-            HostCall::Load(load) => self.load(&load.with(Options::default())),
+            HostCall::Load(load) => self.load(&Load { f800_protects: 0, ..load }),
             HostCall::LoadOptions(load) => {
                 self.refuse_option(&load)?;
                 self.load(&load)
@@ -128,7 +127,7 @@ impl Host {
 
     /// N1 of a load that asks for an option.
     fn refuse_option(&self, load: &Load) -> Result<(), Refusal> {
-        Refusal::ImageLength.when(!image::holds(self.image.len(), load.options()))
+        Refusal::ImageLength.when(!image::holds(self.image.len(), load.has_option()))
     }
 
     fn state(&mut self) -> Result<&mut Session, Refusal> {

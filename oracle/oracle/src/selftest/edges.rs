@@ -1,11 +1,10 @@
 // SPDX-License-Identifier: MIT OR Apache-2.0
 //! Results at the edges of the clauses of docs/SCOPE.md, on the Rust: a file for each letter, one for L11, one for L18, one for the new
-//! edition, one for signed levels and plain sums, and one for M5 without PRG-RAM.
+//! edition, and one for M5 without PRG-RAM.
 
 mod blocks;
 mod clock;
 mod host;
-mod levels;
 mod load;
 mod memory;
 mod no_ram;
@@ -18,7 +17,7 @@ mod sound;
 
 use super::checks::Check;
 
-pub const SECTIONS: [(&str, Check); 13] = [
+pub const SECTIONS: [(&str, Check); 12] = [
     ("R: records", records::check),
     ("M: memory", memory::check),
     ("M5: carts without PRG-RAM", no_ram::check),
@@ -27,7 +26,6 @@ pub const SECTIONS: [(&str, Check); 13] = [
     ("L18: previews", preview::check),
     ("L19 to L24: the new edition", protection::check),
     ("S: sound", sound::check),
-    ("S13 to S17: signed levels and plain sums", levels::check),
     ("C: clocks, reset, battery", clock::check),
     ("H: host and image", host::check),
     ("N: refused calls", refusals::check),

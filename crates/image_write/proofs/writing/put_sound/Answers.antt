@@ -4,17 +4,10 @@ use lib.ListN.{length-map}
 use Rattle.bits.specs.Fields.{total}
 use Rattle.image_write.specs.Image.{part, sound_widths, sound_fields, level_num}
 use Rattle.image_write.specs.Sections.{port_at, levels_at, prg_pages_at}
-use Rattle.image_write.proofs.Levels.{level-fits}
 use Rattle.image_write.proofs.Parts.{wrote-to, wrote-fields, wrote-part, wrote-end, byte-held}
 use native.Mathlib.Omega.{arith}
 use borrow.Author.Rules.{rules}
 use Rattle.image_write.proofs.writing.put_sound.Goals as goal
-
-pub put_levels-requires : goal.put_levels-requires
-put_levels-requires c = λ i h. level-fits _ _ (c.requires.outputs i h)
-
-pub put_out-requires : goal.put_out-requires
-put_out-requires c = c.requires.mixed.number
 
 pub returns : goal.returns
 unfolding total

@@ -1,8 +1,0 @@
--- `options_of` meets its contract: bit by bit.
-use mathlib.Core.Path.{refl}
-use Rattle.bits.specs.Fields.{total, unpack}
-use Rattle.image_read.proofs.words.options_of.Goals as goal
-
-pub returns : goal.returns
-unfolding unpack total
-returns c = refl
