@@ -33,7 +33,7 @@ pub fn load(img: &[u8], at: usize, k: usize, acc: u64) -> u64
     a
 }
 
-// Copies bytes to a place.
+// Copies bytes to a place: one call of std's, with this crate's definition, as `overlay` of memory_bytes has.
 pub fn copy_to(img: &mut [u8], at: usize, xs: &[u8])
     requires { at + length xs.now ≤ length img.old }
     ensures { img.new ≡ paste img.old at xs.now (length xs.now) }

@@ -7,7 +7,7 @@ use native.Mathlib.Numerals.{add-one}
 use lib.Dec.{ltb}
 use lib.ListN.{get_or}
 use Rattle.memory.specs.declared.Memory.{Memory}
-use Rattle.memory.specs.Region.{Region}
+use Rattle.memory.specs.declared.layout.Region.{Region}
 use Rattle.memory.specs.declared.layout.Src.TheVariants.{Chr, CiRam}
 use Rattle.memory.specs.declared.page.Page.{Page}
 use Rattle.memory.specs.Memory.{region_in, with_chr_pages}

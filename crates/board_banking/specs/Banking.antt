@@ -1,7 +1,7 @@
 -- L13: the Rust's `update_banks`, the page tables by the registers and the layout alone, as steps of the memory, in the Rust's order.
 use Rattle.std.specs.Prelude.{ℕ, zero, suc, ◌+◌, ◌*◌, ◌/◌, Bool, true, false, cond, List, ltb, pos, negsuc, get_or}
 use Rattle.memory.specs.declared.Memory.{Memory}
-use Rattle.memory.specs.Region.{Region}
+use Rattle.memory.specs.declared.layout.Region.{Region}
 use Rattle.memory.specs.declared.layout.Src.{Src}
 use Rattle.memory.specs.declared.page.Page.{Page}
 use Rattle.memory.specs.declared.layout.Src.TheVariants.{PrgRom, PrgRam, Chr, CiRam}

@@ -8,15 +8,14 @@ ghost use Rattle.board_banking.specs.Banking.{slot_pages, map_slots, map_chr_tab
 
 use board_chip::namco163::Namco163;
 use memory::Memory;
-use memory::layout::Src;
+use memory::layout::{Region, Src};
 use memory::page::Page;
-use memory::region::Region;
 use memory_map::mirroring::set_mirroring;
 use memory_map::windows::{map_pages, map_prg, set_prg_writable, unmap_prg};
 
 // A slot of the PPU's table shows a bank of a region, a nametable at $3000 too.
 fn slot_pages(pages: &mut [Page; 16], region: Region, slot: u16, bank: u8)
-    requires { slot < 12 }
+    requires { (region.start + region.len ≤ arena_most) × (slot < 12) }
     ensures { pages.new ≡ slot_pages region slot bank pages.old }
 {
     let size = Namco163::CHR_WINDOW;
@@ -30,6 +29,7 @@ fn slot_pages(pages: &mut [Page; 16], region: Region, slot: u16, bank: u8)
 
 // The region that a CHR slot shows.
 fn slot_region(ciram: bool, chr: Region, nametables: Region) -> Region
+    requires { (chr.start + chr.len ≤ arena_most) × (nametables.start + nametables.len ≤ arena_most) }
     ensures { (result ≡ cond ciram nametables chr) × (result.start + result.len ≤ arena_most) }
 {
     if ciram { nametables } else { chr }

@@ -26,7 +26,8 @@ fn battery_start(m: Memory) -> usize
     m.region(Src::BatteryExt).start
 }
 
-// F6: copies the sound RAM over the 128 bytes of the arena from a place on.
+// F6: copies the sound RAM over the 128 bytes of the arena from a place on. One call of std's, as `overlay` of memory_bytes, of which this
+// crate has the definition: that function is not public, and asks nothing else.
 fn put_battery(arena: &mut [u8], at: usize, ram: [u8; Audio::RAM_SIZE])
     requires { at + 128 ≤ length arena.old }
     ensures { arena.new ≡ overlay arena.old at ram }

@@ -40,7 +40,8 @@ fn eight_words(img: &[u8], at: usize) -> Eight
     }
 }
 
-// Each entry is cut out by its own constant, with no loop and no cursor.
+// Each entry is cut out by its own constant, and no loop counts them: a shift by a number of a loop would have to be shown below 64 and
+// turned into the division that the contract has, entry by entry.
 fn eight_of(w: Eight) -> [Page; 8]
     requires { (w.first < 2 ^ 44) × (w.last < 2 ^ 44) }
     ensures { (result ≡ pages_of (eight_fields w)) × (length result ≡ 8) }

@@ -15,7 +15,7 @@ fn put_eight(img: &mut [u8], at: usize, g: &[Page])
     ensures { Wrote img.old img.new (byte_at at) (byte_at (at + 11)) (times 8 page_widths) (each page_fields g.now) }
 {
     let mut c = Cursor::at_byte(at);
-    // Two whole words of 44 bits, not a loop over the entries: the widths are constants here.
+    // Two whole words of 44 bits, and no loop over the entries: each shift is a constant, as docs/DECISIONS.md says of the page tables.
     c.put(img, 44, quad_word(g[0], g[1], g[2], g[3]));
     c.put(img, 44, quad_word(g[4], g[5], g[6], g[7]));
 }

@@ -94,7 +94,7 @@ fn page_word(p: Page) -> u64
     (p.offset() as u64) / 1024 * 2 + u64::from(p.is_writable())
 }
 
-// Four entries in 44 bits.
+// Four entries in 44 bits, by name: of a slice of four its length would be asked beside the same four facts.
 pub fn quad_word(p: Page, q: Page, r: Page, s: Page) -> u64
     requires { (offset_of p < offset_limit) × (offset_of q < offset_limit) × (offset_of r < offset_limit) × (offset_of s < offset_limit) }
     ensures { (result ≡ pack (times 4 page_widths) (each page_fields (p ∷ q ∷ r ∷ s ∷ []))) × (result < 2 ^ 44) }

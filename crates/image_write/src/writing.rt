@@ -23,7 +23,8 @@ use crate::words::{banks_word, detection_word, flags_word, layout_word, port_wor
 use bits::cursor::Cursor;
 use bits::words::load;
 use board_chip::namco163::Namco163;
-use board_state::{State, in_range};
+use board_state::State;
+use call_refusals::known::KnownState;
 use memory::Memory;
 use refusals::Refusal;
 use sound::audio::Audio;
@@ -139,9 +140,7 @@ pub fn write_image(s: State, img: &mut [u8]) -> Result<(), Refusal>
     if !room_for(s.f800_protects, img.len()) {
         return Err(Refusal::Image);
     }
-    if !in_range(s) {
-        return Err(Refusal::State);
-    }
-    put_image(img, s);
+    let known = KnownState::new(s)?;
+    put_image(img, known.state);
     Ok(())
 }

@@ -1,6 +1,5 @@
 -- The board's memory, over the types that src/ declares.
 pub mod Page
-pub mod Region
 pub mod Layout
 pub mod Memory
 pub mod Mirroring

@@ -1,7 +1,7 @@
 -- R8: the memory without its bytes: its regions and its two tables.
 use Rattle.std.specs.Prelude.{List}
 use Rattle.memory.specs.declared.Memory.{Memory}
-use Rattle.memory.specs.Region.{Region}
+use Rattle.memory.specs.declared.layout.Region.{Region}
 use Rattle.memory.specs.declared.layout.Src.{Src}
 use Rattle.memory.specs.declared.page.Page.{Page}
 use Rattle.memory.specs.Layout.{region_of}

@@ -4,7 +4,6 @@ ghost use Rattle.limits.specs.Limits.{arena_most};
 ghost use Rattle.memory.specs.Layout.{within_limits, pages_for, ciram_bytes, layout_of, first_page, arena_len, region_of};
 ghost use Rattle.memory.specs.Range.{GoodLayout};
 
-use crate::region::Region;
 use limits::{BATTERY_LIMIT, CHR_LIMIT, CIRAM_LIMIT, PRG_RAM_LIMIT, PRG_ROM_LIMIT};
 
 // Sizes of the regions in bytes, as the host gives them.
@@ -37,6 +36,15 @@ pub enum Src {
     BatteryExt,
     Chr,
     CiRam,
+}
+
+// A region of the arena, in bytes; any two lengths make one. Where it has to end is asked by each function that adds to it, of as much as
+// its own sums need (2^30, 2^63 or arena_most): a type with the least of these as its invariant would ask more of the others.
+#[derive(Clone, Copy)]
+pub struct Region {
+    pub start: usize,
+    pub len: usize,
+    pub writable: bool,
 }
 
 impl MemoryLayout {

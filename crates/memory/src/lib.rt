@@ -6,9 +6,8 @@ ghost use Rattle.limits.specs.Limits.{arena_most};
 ghost use Rattle.memory.specs.Memory.{region_in};
 ghost use Rattle.memory.specs.Range.{Sized};
 
-use layout::{Layout, Src};
+use layout::{Layout, Region, Src};
 use page::Page;
-use region::Region;
 
 pub mod changes; // changes.rt: which entries changed
 pub mod layout; // layout.rt: sizes, page counts and regions
@@ -16,7 +15,6 @@ pub mod mask; // mask.rt: a bit for each entry that passes a test
 pub mod mirroring; // mirroring.rt: the kinds of nametable mirroring
 pub mod page; // page.rt: a page entry
 pub mod range; // range.rt: whether a memory is in range
-pub mod region; // region.rt: a region of the arena
 
 // The memory without its bytes, which lie in an arena that the caller lends.
 #[derive(Clone, Copy)]

@@ -4,7 +4,7 @@ use Rattle.std.specs.Prelude as code
 use Rattle.std.proofs.Math.Option.{Option, some, none}
 use Rattle.memory.specs.declared.Memory.{Memory}
 use Rattle.memory_bytes.specs.declared.bytes.Span.{Span}
-use Rattle.memory.specs.Region.{Region}
+use Rattle.memory.specs.declared.layout.Region.{Region}
 use Rattle.memory.specs.declared.layout.Src.{Src}
 use Rattle.memory.specs.declared.layout.Src.TheVariants.{PrgRam, BatteryExt}
 use Rattle.memory.specs.declared.page.Page.{Page}

@@ -2,7 +2,7 @@
 // the memory in each call, and one struct of both would have to come in a shared and an exclusive form. So `Backed` is asked of the two.
 // The Rust's calls of the two tables are a line each over an entry. One function of an entry would ask of it where it lies in the arena,
 // which each caller would have to show.
-ghost use Rattle.std.specs.Prelude.{◌+◌, ◌≤◌, ◌<◌, ◌≡◌, length, IfSome};
+ghost use Rattle.std.specs.Prelude.{◌+◌, ◌^◌, ◌≤◌, ◌<◌, ◌≡◌, length, IfSome};
 ghost use Rattle.memory.specs.Memory.{region_in};
 ghost use Rattle.memory.specs.Range.{Sized};
 ghost use Rattle.memory.specs.Page.{offset_of};
@@ -11,9 +11,8 @@ ghost use Rattle.memory_bytes.specs.Bytes.{prg_peek, prg_write, chr_peek, chr_wr
 ghost use Rattle.memory_bytes.specs.Bytes.{overlay, fill_region, sram_of};
 
 use memory::Memory;
-use memory::layout::Src;
+use memory::layout::{Region, Src};
 use memory::page::Page;
-use memory::region::Region;
 
 // A stretch of the arena.
 #[derive(Clone, Copy)]
@@ -55,6 +54,7 @@ pub fn stored_at(page: Page, addr: u16) -> Option<usize>
 
 // Where in the arena an offset of a region lies, which wraps, if the region has a byte.
 pub fn wrapped_at(region: Region, offset: u64) -> Option<usize>
+    requires { region.start + region.len < 2 ^ 63 }
     ensures { place result ≡ wrapped_at region offset }
 {
     if region.len == 0 {

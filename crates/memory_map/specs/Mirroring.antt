@@ -1,7 +1,7 @@
 -- M7: `set_mirroring`.
 use Rattle.std.specs.Prelude.{ℕ, ◌+◌, ◌*◌, ◌/◌, ◌%◌, true, List, [], ◌∷◌, get_or}
 use Rattle.memory.specs.declared.Memory.{Memory}
-use Rattle.memory.specs.Region.{Region}
+use Rattle.memory.specs.declared.layout.Region.{Region}
 use Rattle.memory.specs.declared.layout.Src.TheVariants.{CiRam}
 use Rattle.memory.specs.declared.mirroring.Mirroring.{Mirroring}
 use Rattle.memory.specs.declared.mirroring.Mirroring.TheVariants.{Vertical, Horizontal, SingleScreenA, SingleScreenB, FourScreen}

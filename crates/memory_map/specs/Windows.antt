@@ -1,7 +1,7 @@
 -- M1, M2, M5: the mapping of a window, and the flag of its entries.
 use Rattle.std.specs.Prelude.{ℕ, zero, suc, ◌+◌, ◌-◌, ◌*◌, ◌/◌, ◌%◌, ◌^◌, max, ◌≤◌, ◌<◌, ◌≡◌, Bool, cond, List, eqb, ℤ, pos, negsuc, set, get_or}
 use Rattle.memory.specs.declared.Memory.{Memory}
-use Rattle.memory.specs.Region.{Region}
+use Rattle.memory.specs.declared.layout.Region.{Region}
 use Rattle.memory.specs.declared.layout.Src.{Src}
 use Rattle.memory.specs.declared.page.Page.{Page}
 use Rattle.memory.specs.Memory.{region_in, with_prg_pages, with_chr_pages}

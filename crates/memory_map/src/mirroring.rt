@@ -1,14 +1,13 @@
 // Nametable mirroring: which CIRAM page each nametable shows.
-ghost use Rattle.std.specs.Prelude.{◌%◌, ◌≤◌, ◌≡◌, get_or};
+ghost use Rattle.std.specs.Prelude.{◌+◌, ◌%◌, ◌^◌, ◌≤◌, ◌<◌, ◌≡◌, get_or};
 ghost use Rattle.memory.specs.Range.{Sized};
 ghost use Rattle.memory_map.specs.Mirroring.{ciram_banks, nametable_page, set_mirroring};
 
 use crate::table::each_page;
 use memory::Memory;
-use memory::layout::Src;
+use memory::layout::{Region, Src};
 use memory::mirroring::Mirroring;
 use memory::page::Page;
-use memory::region::Region;
 
 // The CIRAM bank of each of the four nametables.
 fn ciram_banks(mirroring: Mirroring) -> [usize; 4]
@@ -26,7 +25,7 @@ fn ciram_banks(mirroring: Mirroring) -> [usize; 4]
 // The CIRAM page of a nametable.
 #[tactic(auto, unfolding(crate::specs::Mirroring::nametable_page))]
 fn nametable_page(ciram: Region, bank: usize) -> Page
-    requires { 1024 ≤ ciram.len }
+    requires { (ciram.start + ciram.len < 2 ^ 30) × (1024 ≤ ciram.len) }
     ensures { result ≡ nametable_page ciram bank }
 {
     Page::new(ciram.start + 1024 * (bank % (ciram.len / 1024)), true)
@@ -40,7 +39,7 @@ pub fn set_mirroring(m: &mut Memory, mirroring: Mirroring)
     let ciram = m.region(Src::CiRam);
     let banks = ciram_banks(mirroring);
     let shown = |i: usize, _: Page|
-        requires { 1024 ≤ ciram.len }
+        requires { (ciram.start + ciram.len < 2 ^ 30) × (1024 ≤ ciram.len) }
         ensures { result ≡ nametable_page ciram (get_or banks (i % 4) 0) }
     { nametable_page(ciram, banks[i % 4]) };
     each_page(&mut m.chr_pages, 8, 8, shown);

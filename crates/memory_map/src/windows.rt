@@ -1,5 +1,7 @@
 // Windows of the two address spaces: banks of a region mapped into a page table.
-// `Sized` is asked as in memory/src/lib.rt.
+// `Sized` is asked as in memory/src/lib.rt, and where a region ends as in memory/src/layout.rt. An address and a size stand side by side
+// for a window, and `0 < size` is asked by those alone that divide by it: a type of the two with that fact would ask it of `unmap_prg` and
+// `set_prg_writable` too, and would be made at each call from two numbers and taken apart at once.
 ghost use Rattle.std.specs.Prelude.{◌+◌, ◌*◌, ◌/◌, ◌^◌, ◌≤◌, ◌<◌, ◌≡◌};
 ghost use Rattle.memory_map.specs.Windows.{banks_of, window_base, region_page, with_flag};
 ghost use Rattle.memory_map.specs.Windows.{map_pages, map_prg, unmap_prg, set_prg_writable};
@@ -8,9 +10,8 @@ ghost use Rattle.memory.specs.Range.{Sized};
 
 use crate::table::each_page;
 use memory::Memory;
-use memory::layout::Src;
+use memory::layout::{Region, Src};
 use memory::page::Page;
-use memory::region::Region;
 
 // How many windows a region has, at least one.
 fn banks(len: usize, size: usize) -> usize
@@ -31,6 +32,7 @@ fn window_base(len: usize, size: usize, bank: i32) -> usize
 // The page at an offset of a region, which wraps.
 #[tactic(auto, unfolding(crate::specs::Windows::region_page))]
 fn region_page(region: Region, offset: usize) -> Page
+    requires { region.start + region.len < 2 ^ 30 }
     ensures { result ≡ region_page region offset }
 {
     if region.len == 0 {
@@ -57,12 +59,12 @@ pub fn map_pages<const N: usize>(
     bank: i32,
     region: Region,
 )
-    requires { (0 < N) × (N ≤ 64) × (0 < size) }
+    requires { (0 < N) × (N ≤ 64) × (region.start + region.len ≤ arena_most) × (0 < size) }
     ensures { pages.new ≡ map_pages N region size bank (addr / 1024) pages.old }
 {
     let base = window_base(region.len, size, bank);
     let shown = |i: usize, _: Page|
-        requires { base + 1024 * i < 2 ^ 64 }
+        requires { (region.start + region.len < 2 ^ 30) × (base + 1024 * i < 2 ^ 64) }
         ensures { result ≡ region_page region (base + 1024 * i) }
     { region_page(region, base + 1024 * i) };
     each_page(pages, usize::from(addr / 1024), size / 1024, shown);

@@ -23,6 +23,7 @@ pub enum Name {
     Directory,
 }
 
+// An `Option`, here and for the other words of a line: a `TryFrom` would need an error type that nothing reads.
 pub fn name_of(word: &[u8]) -> Option<Name> {
     let name = match word {
         b"load" => Name::Load,

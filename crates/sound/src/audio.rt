@@ -3,6 +3,7 @@
 ghost use Rattle.std.specs.Prelude.{◌≡◌};
 ghost use Rattle.sound.specs.Audio.{fresh};
 
+// The outputs and the phases of the channels are side by side, as the Rust has them and R8 names them.
 #[derive(Clone, Copy)]
 pub struct Audio {
     pub ram: [u8; Audio::RAM_SIZE],

@@ -10,7 +10,8 @@ use sound_wave::channel::{Channel, base_addr, channel_count};
 use sound_wave::mix;
 
 // C6: how many updates `n` clocks make follows from the update counter. The loop steps from update to update, in place. Answers how many
-// samples were made. `InRange` is asked as in clock.rt.
+// samples were made. `InRange` is asked as in clock.rt. The loop hands the sum of the outputs on from update to update, where
+// `update_channel` of clock.rt adds them anew, as the Rust does: so the two steps are two functions.
 pub fn run(a: &mut Audio, n: u32, samples: &mut [f32]) -> usize
     requires in_range { InRange a.old }
     requires a_in_bounds { length (samples_of n a.old) ≤ length samples.old }

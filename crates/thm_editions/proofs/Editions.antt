@@ -23,7 +23,7 @@ use Rattle.cut.proofs.Machine.{state-more}
 use Rattle.limits.proofs.Each.{cond-holds}
 use Rattle.memory.specs.declared.Memory.{Memory}
 use Rattle.memory.specs.declared.layout.Layout.{Layout}
-use Rattle.memory.specs.Region.{Region}
+use Rattle.memory.specs.declared.layout.Region.{Region}
 use Rattle.memory.specs.declared.layout.Src.{Src}
 use Rattle.memory.specs.declared.layout.Src.TheVariants.{BatteryExt}
 use Rattle.memory.specs.declared.page.Page.{Page}

@@ -15,7 +15,7 @@ region-requires c =
 
 pub returns-then-region-n : goal.returns-then-region-n
 returns-then-region-n c =
-    last-refuses _ _ _ c.in_ok-check_arena.ensures (rw (← c.region.ensures.0, ← c.region-2.view_is) (lt-ltb _ _ c.if-region-n.true))
+    last-refuses _ _ _ c.in_ok-check_arena.ensures (rw (← c.region.ensures.0) (lt-ltb _ _ c.if-region-n.true))
 
 pub returns : goal.returns
-returns c = last-passes _ _ _ c.in_ok-check_arena.ensures (rw (← c.region.ensures.0, ← c.region-2.view_is) (le-ltb _ _ c.if-region-n.false))
+returns c = last-passes _ _ _ c.in_ok-check_arena.ensures (rw (← c.region.ensures.0) (le-ltb _ _ c.if-region-n.false))

@@ -9,7 +9,7 @@ use Rattle.limits.specs.Limits.{ciram_limit, ciram_pages, arena_most}
 use Rattle.limits.proofs.Every.{first_of}
 use Rattle.memory.specs.declared.layout.Layout.{Layout}
 use Rattle.memory.specs.declared.layout.MemoryLayout.{MemoryLayout}
-use Rattle.memory.specs.Region.{Region}
+use Rattle.memory.specs.declared.layout.Region.{Region}
 use Rattle.memory.specs.declared.layout.Src.{Src}
 use Rattle.memory.specs.declared.layout.Src.TheVariants.{PrgRom, PrgRam, BatteryExt, Chr, CiRam}
 use Rattle.memory.specs.Layout.{within_limits, WithinLimits, pages_for, ciram_bytes, layout_of}

@@ -11,7 +11,7 @@ use native.Mathlib.Decide.{ℕ_discrete}
 use lib.Dec.{eqb}
 use lib.ListN.{length, length-set, length-append, get_or, take, drop, get_or-append}
 use lib.Seq.{drop-drop, get_or-set_same, get_or-set_other, get_or-append-add, get_or-take, get_or-drop, take-length, length-take-le, length-paste}
-use Rattle.memory.specs.Region.{Region}
+use Rattle.memory.specs.declared.layout.Region.{Region}
 use Rattle.memory.specs.declared.layout.Src.{Src}
 use Rattle.memory.proofs.Laws.Layout.{region-in}
 use Rattle.memory.specs.declared.Memory.{Memory}

@@ -16,7 +16,7 @@ use lib.Seq.{get_or-set_same, get_or-set_other}
 use Rattle.memory.specs.declared.Memory.{Memory}
 use Rattle.memory.specs.declared.layout.Layout.{Layout}
 use Rattle.memory.specs.declared.layout.MemoryLayout.{MemoryLayout}
-use Rattle.memory.specs.Region.{Region}
+use Rattle.memory.specs.declared.layout.Region.{Region}
 use Rattle.memory.specs.declared.layout.Src.{Src}
 use Rattle.memory.specs.declared.layout.Src.TheVariants.{CiRam}
 use Rattle.memory.specs.declared.mirroring.Mirroring.{Mirroring}

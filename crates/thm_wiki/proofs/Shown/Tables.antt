@@ -15,7 +15,7 @@ use lib.Seq.{get_or-set_same, get_or-set_other}
 use Rattle.limits.proofs.Each.{cond-holds}
 use Rattle.memory.specs.declared.Memory.{Memory}
 use Rattle.memory.specs.declared.page.Page.{Page}
-use Rattle.memory.specs.Region.{Region}
+use Rattle.memory.specs.declared.layout.Region.{Region}
 use Rattle.memory.specs.declared.layout.Src.TheVariants.{PrgRam, CiRam}
 use Rattle.memory.specs.Memory.{region_in, with_prg_pages, with_chr_pages}
 use Rattle.memory.specs.Page.{unmapped, offset_of}

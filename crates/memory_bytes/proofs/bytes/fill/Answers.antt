@@ -1,15 +1,13 @@
 -- The bytes end in the region, and the region in the arena.
-use mathlib.Core.Path.{ap, ◌∙◌}
 use native.Mathlib.Omega.{arith}
-use Rattle.memory.specs.Region.{Region}
 use Rattle.memory_bytes.proofs.Laws.Bytes.{region-backed}
 use Rattle.memory_bytes.specs.Bytes.{fill_region}
 use Rattle.memory_bytes.proofs.bytes.fill.Goals as goal
 
 pub overlay-requires : goal.overlay-requires
-overlay-requires c = rw (ap (λ (r : Region). r.start) (c.overlay.view_is ∙ c.region.ensures.0))
+overlay-requires c = rw c.region.ensures.0
     (omega (arith, c.requires.1, region-backed c.args.m c.args.arena.now c.requires.0 c.args.src))
 
 pub returns : goal.returns
 unfolding fill_region
-returns c = rw (c.overlay-2.ensures, ap (λ (r : Region). r.start) (c.overlay.view_is ∙ c.region.ensures.0))
+returns c = rw (c.overlay.ensures, c.region.ensures.0)

@@ -1,6 +1,6 @@
 -- The region lies in the arena.
 use mathlib.Core.Path.{ap, ◌∙◌}
-use Rattle.memory.specs.Region.{Region}
+use Rattle.memory.specs.declared.layout.Region.{Region}
 use Rattle.memory_bytes.specs.Bytes.{wrapped_at}
 use Rattle.memory_bytes.proofs.Laws.Bytes.{placed, region-stored}
 use Rattle.memory_bytes.proofs.bytes.region_peek.Goals as goal

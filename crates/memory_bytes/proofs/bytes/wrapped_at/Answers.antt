@@ -5,8 +5,8 @@ use Rattle.memory_bytes.proofs.bytes.wrapped_at.Goals as goal
 
 pub returns-then-region-eq0 : goal.returns-then-region-eq0
 unfolding wrapped_at
-returns-then-region-eq0 c = rw (← c.region.view_is, eq-eqb _ _ c.if-region-eq0.true)
+returns-then-region-eq0 c = rw (eq-eqb _ _ c.if-region-eq0.true)
 
 pub returns : goal.returns
 unfolding wrapped_at
-returns c = rw (← c.region.view_is, ne_eqb _ _ c.if-region-eq0.false)
+returns c = rw (ne_eqb _ _ c.if-region-eq0.false)

@@ -10,7 +10,7 @@ use Rattle.memory_map.proofs.mirroring.set_mirroring.Goals as goal
 pub each_page-requires : goal.each_page-requires
 unfolding region_of
 each_page-requires c =
-    (omega arith, (omega arith, (omega arith, λ i p h. rw c.region-ciram.ensures.0 (omega arith))))
+    (omega arith, (omega arith, (omega arith, λ i p h. (omega arith, rw c.region-ciram.ensures.0 (omega arith)))))
 
 pub returns : goal.returns
 unfolding set_mirroring mirror_pages
