@@ -1,5 +1,6 @@
 // A bit cursor: fields of any number of bits, most significant first, whole bytes stored or taken as they fill. What is known of one stands
-// in the contracts (`Held`, `Behind`) and not in the type: a reader's fact is about the bytes that it reads, which are lent to each call.
+// in the contracts (`Held`, `Behind`) and not in the type: a reader's fact is about the bytes that it reads, which are lent to each call. A
+// width is at most 56, since up to 7 bits are held before a field. It is a constant at each call, where a type for it would only be made.
 ghost use Rattle.std.specs.Prelude.{◌+◌, ◌*◌, ◌^◌, ◌<◌, ◌≤◌, ◌≡◌, [], ◌∷◌, length, replicate};
 ghost use Rattle.bits.specs.Fields.{Fit};
 ghost use Rattle.bits.specs.Words.{eights};

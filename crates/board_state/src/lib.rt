@@ -37,6 +37,7 @@ fn banks_ok(banks: &[u8; 3]) -> bool
         .fold(true, |ok, bank| ok & (bank <= BANK_MOST))
 }
 
+// R8, N4: the mapper stays a number, as the Rust's field and C's argument are. An enum would be turned back into it at once.
 pub fn mapper_ok(mapper: u64) -> bool
     ensures { result ≡ mapper_ok mapper }
 {

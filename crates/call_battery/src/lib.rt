@@ -26,8 +26,8 @@ fn battery_start(m: Memory) -> usize
     m.region(Src::BatteryExt).start
 }
 
-// F6: copies the sound RAM over the 128 bytes of the arena from a place on. One call of std's, as `overlay` of memory_bytes, of which this
-// crate has the definition: that function is not public, and asks nothing else.
+// F6: copies the sound RAM over the 128 bytes of the arena from a place on. `fill` of memory_bytes would do it by the region, and asks that
+// all pages lie in the arena and that the region is long enough, which would have to be shown for these 128 bytes.
 fn put_battery(arena: &mut [u8], at: usize, ram: [u8; Audio::RAM_SIZE])
     requires { at + 128 ≤ length arena.old }
     ensures { arena.new ≡ overlay arena.old at ram }
@@ -35,6 +35,7 @@ fn put_battery(arena: &mut [u8], at: usize, ram: [u8; Audio::RAM_SIZE])
     arena[at..at + Audio::RAM_SIZE].copy_from_slice(&ram);
 }
 
+// The 128 bytes from a place on, as `copy_from` of bits, which has no part in the board.
 fn get_battery(arena: &[u8], at: usize) -> [u8; Audio::RAM_SIZE]
     requires { at + 128 ≤ length arena.now }
     ensures { result ≡ take 128 (drop at arena.now) }
@@ -55,11 +56,10 @@ pub fn sync_battery(s: State, arena: &mut [u8]) -> Result<(), Refusal>
     Ok(())
 }
 
-pub fn restore_battery(s: State, arena: &[u8]) -> Result<State, Refusal>
+pub fn restore_battery(mut s: State, arena: &[u8]) -> Result<State, Refusal>
     ensures { altered s result ≡ restore_state s arena.now }
 {
     check_battery(s, arena.len())?;
-    let mut after = s;
-    after.chip.audio.ram = get_battery(arena, battery_start(s.memory));
-    Ok(after)
+    s.chip.audio.ram = get_battery(arena, battery_start(s.memory));
+    Ok(s)
 }

@@ -1,4 +1,5 @@
-// The writes, which drop the blocks over the CPU pages that they touch (K5), and the preview of a CPU write (L18).
+// The writes, which drop the blocks over the CPU pages that they touch (K5), and the preview of a CPU write (L18). The places are lent
+// beside state and arena, as C lends the three.
 ghost use Rattle.std.specs.Prelude.{◌≡◌, length};
 ghost use Rattle.refusals.specs.Refusal.{refusal_of};
 ghost use Rattle.call_refusals.specs.Refusals.{first_of, arena_checks};

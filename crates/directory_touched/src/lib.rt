@@ -38,7 +38,7 @@ fn shown_by(pages: [Page; 64], at: Option<usize>) -> u64
     }
 }
 
-// Of a CPU write. This and the next are a line each over the one function, which would gain a closure for the entry.
+// Of a CPU write. This and the next are a line each over the one function, which would gain a parameter for the entry.
 pub fn stored_prg(m: Memory, addr: u16) -> u64
     ensures { result ≡ shown_by m.prg_pages (stored_at (prg_entry m addr) addr) }
 {

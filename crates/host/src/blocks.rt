@@ -90,7 +90,7 @@ pub fn namco163_load_blocks(
     if !room_for(f800_protects != 0, image.len()) {
         return Err(Refusal::Image);
     }
-    // Written out as in lib.rt: a function for it would have these twelve parameters.
+    // Written out as in lib.rt: a function for it would have these eleven parameters.
     let cartridge = Cartridge {
         mapper,
         submapper,

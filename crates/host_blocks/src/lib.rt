@@ -22,7 +22,7 @@ use refusals::Refusal;
 use refusals::word::Word;
 
 // A CPU write on a state, and the image of the state after it, which the bytes hold (as in image_write). The blocks over the pages that it
-// touches go.
+// touches go. The steps are those of `write_on` of host_state round another call.
 pub fn write_blocks_on(
     d: &mut [u64],
     s: KnownState,

@@ -40,8 +40,7 @@ fn eight_words(img: &[u8], at: usize) -> Eight
     }
 }
 
-// Each entry is cut out by its own constant, and no loop counts them: a shift by a number of a loop would have to be shown below 64 and
-// turned into the division that the contract has, entry by entry.
+// Each entry is cut out by its own constant.
 fn eight_of(w: Eight) -> [Page; 8]
     requires { (w.first < 2 ^ 44) × (w.last < 2 ^ 44) }
     ensures { (result ≡ pages_of (eight_fields w)) × (length result ≡ 8) }
@@ -64,7 +63,7 @@ pub fn get_pages(img: &[u8], at: usize, pages: &mut [Page])
     requires { (length pages.old % 8 ≡ 0) × (at + length pages.old / 8 * 11 ≤ length img.now) }
     ensures { pages.new ≡ pages_of (fields_at (times (length pages.old) page_widths) img.now at (length pages.old / 8 * 11)) }
 {
-    // By number, as image_write's `put_pages`.
+    // By number (F4), as image_write's `put_pages`.
     for k in 0..pages.len() / 8 {
         let g = eight_of(eight_words(img, at + k * 11));
         pages[k * 8..k * 8 + 8].copy_from_slice(&g);

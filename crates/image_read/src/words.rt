@@ -20,6 +20,8 @@ pub fn regs_of(w: u64) -> Regs
     }
 }
 
+// This and the next are total, as their definitions are: what they give of a number that none has is read by nobody, since `read_body`
+// refuses a mirroring above 4 and two bits hold the boards. One function for both would take the type, the last number and the last value.
 pub fn board_numbered(n: u64) -> Board
     ensures { result ≡ board_numbered n }
 {

@@ -9,13 +9,13 @@ use crate::words::quad_word;
 use bits::cursor::Cursor;
 use memory::page::Page;
 
-// Eight entries in the 11 bytes from a place on: a slice of eight and no array, which a table's part becomes only by a test.
+// Eight entries in the 11 bytes from a place on. A slice of eight, as a part of a table that goes by number is.
 fn put_eight(img: &mut [u8], at: usize, g: &[Page])
     requires { (at + 11 ≤ length img.old) × (length g.now ≡ 8) × PagesFit 8 g.now }
     ensures { Wrote img.old img.new (byte_at at) (byte_at (at + 11)) (times 8 page_widths) (each page_fields g.now) }
 {
     let mut c = Cursor::at_byte(at);
-    // Two whole words of 44 bits, and no loop over the entries: each shift is a constant, as docs/DECISIONS.md says of the page tables.
+    // Two whole words of 44 bits, not a loop over the entries: the widths are constants here.
     c.put(img, 44, quad_word(g[0], g[1], g[2], g[3]));
     c.put(img, 44, quad_word(g[4], g[5], g[6], g[7]));
 }
@@ -26,7 +26,7 @@ pub fn put_pages(img: &mut [u8], at: usize, pages: &[Page])
     ensures { Wrote img.old img.new (byte_at at) (byte_at (at + length pages.now / 8 * 11))
         (times (length pages.now) page_widths) (each page_fields pages.now) }
 {
-    // By number: both the place and the entries go by it, and `chunks` would be zipped with the places.
+    // By number (F4): both the place and the entries go by it, and `chunks` would be zipped with the places.
     for k in 0..pages.len() / 8 {
         put_eight(img, at + k * 11, &pages[k * 8..k * 8 + 8]);
     }

@@ -86,7 +86,8 @@ pub fn layout_word(m: &Memory) -> u64
     ((prg * 512 + (l.chr as u64)) * 2 + ram) * 16 + (l.ciram as u64) * 2 + used
 }
 
-// A page entry in 11 bits.
+// A page entry in 11 bits. That its offset is in range is asked here, of four entries below and of tables in pages.rt (`PagesFit`): a host
+// may lend any page, as it may any memory (memory/src/lib.rt).
 fn page_word(p: Page) -> u64
     requires { offset_of p < offset_limit }
     ensures { (result ≡ pack page_widths (page_fields p)) × (result < 2 ^ 11) }
@@ -94,7 +95,7 @@ fn page_word(p: Page) -> u64
     (p.offset() as u64) / 1024 * 2 + u64::from(p.is_writable())
 }
 
-// Four entries in 44 bits, by name: of a slice of four its length would be asked beside the same four facts.
+// Four entries in 44 bits, by name: an array would be made of them at each call and taken apart at once, with the same four facts.
 pub fn quad_word(p: Page, q: Page, r: Page, s: Page) -> u64
     requires { (offset_of p < offset_limit) × (offset_of q < offset_limit) × (offset_of r < offset_limit) × (offset_of s < offset_limit) }
     ensures { (result ≡ pack (times 4 page_widths) (each page_fields (p ∷ q ∷ r ∷ s ∷ []))) × (result < 2 ^ 44) }

@@ -23,7 +23,7 @@ pub struct Changed {
     pub chr: Changes<u16>,
 }
 
-// An entry differs in its flag too.
+// An entry differs in its flag too. `N ≤ 64` here, below and in memory_map: a mask has 64 bits, and no type of a const parameter says so.
 fn changed_mask<const N: usize>(old: &[Page; N], new: &[Page; N]) -> u64
     requires { N ≤ 64 }
     ensures { result ≡ changed old.now new.now }

@@ -38,8 +38,8 @@ pub enum Src {
     CiRam,
 }
 
-// A region of the arena, in bytes; any two lengths make one. Where it has to end is asked by each function that adds to it, of as much as
-// its own sums need (2^30, 2^63 or arena_most): a type with the least of these as its invariant would ask more of the others.
+// A region of the arena, in bytes; any two lengths make one. Where it has to end is asked by each function that takes one, of as much as it
+// needs: the public `map_pages` of arena_most, the public `wrapped_at` of 2^63. A type with one bound would ask more where less is needed.
 #[derive(Clone, Copy)]
 pub struct Region {
     pub start: usize,

@@ -1,7 +1,7 @@
 // The bytes behind the page entries and in the regions. The arena is lent: a read borrows it and a write changes it, so it stands beside
 // the memory in each call, and one struct of both would have to come in a shared and an exclusive form. So `Backed` is asked of the two.
-// The Rust's calls of the two tables are a line each over an entry. One function of an entry would ask of it where it lies in the arena,
-// which each caller would have to show.
+// The Rust's calls of the two tables, and what gives an entry of either, are a line each. One function of an entry would ask of it where it
+// lies in the arena, which each caller would have to show.
 ghost use Rattle.std.specs.Prelude.{◌+◌, ◌^◌, ◌≤◌, ◌<◌, ◌≡◌, length, IfSome};
 ghost use Rattle.memory.specs.Memory.{region_in};
 ghost use Rattle.memory.specs.Range.{Sized};
@@ -116,8 +116,7 @@ pub fn chr_write(m: Memory, arena: &mut [u8], addr: u16, val: u8)
     store(arena, stored_at(chr_entry(&m, addr), addr), val);
 }
 
-// Copies bytes over a part of the arena: one call of std's, with this crate's definition. `copy_to` of bits and `put_battery` of
-// call_battery are the same call with theirs.
+// Copies bytes over a part of the arena: one call of std's, which `copy_to` of bits and `put_battery` of call_battery make too.
 fn overlay(arena: &mut [u8], at: usize, bytes: &[u8])
     requires { at + length bytes.now ≤ length arena.old }
     ensures { arena.new ≡ overlay arena.old at bytes.now }

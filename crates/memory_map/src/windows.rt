@@ -1,7 +1,7 @@
 // Windows of the two address spaces: banks of a region mapped into a page table.
 // `Sized` is asked as in memory/src/lib.rt, and where a region ends as in memory/src/layout.rt. An address and a size stand side by side
-// for a window, and `0 < size` is asked by those alone that divide by it: a type of the two with that fact would ask it of `unmap_prg` and
-// `set_prg_writable` too, and would be made at each call from two numbers and taken apart at once.
+// for a window, and `0 < size` is asked where a size divides: a type of the two with that fact would be made at each call from two numbers
+// and taken apart at once, by `unmap_prg` and `set_prg_writable` too, which do not need the fact.
 ghost use Rattle.std.specs.Prelude.{◌+◌, ◌*◌, ◌/◌, ◌^◌, ◌≤◌, ◌<◌, ◌≡◌};
 ghost use Rattle.memory_map.specs.Windows.{banks_of, window_base, region_page, with_flag};
 ghost use Rattle.memory_map.specs.Windows.{map_pages, map_prg, unmap_prg, set_prg_writable};

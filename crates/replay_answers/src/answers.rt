@@ -86,6 +86,7 @@ pub fn ran(out: &mut Out, given: Result<(u32, usize), Refusal>, samples: &[f32])
     answer(out, given, |out, (rise, made)| {
         spaced(out, made as u64);
         spaced(out, u64::from(rise));
+        // So many of all: that a slice of them is there would have to be shown where the run was called.
         for &x in samples.iter().take(made) {
             spaced_hex(out, &bits(x).to_be_bytes());
         }

@@ -74,7 +74,7 @@ impl Player {
     }
 
     pub(crate) fn reset(&mut self, s: State, kind: ResetKind) {
-        let after = call_reset::reset(s, u64::from(kind));
+        let after = call_reset::reset(s, u64::from(kind)); // by its number, as C calls it (N3)
         self.keep(after);
         answers::ok(&mut self.out, after.map(|_| ()));
     }

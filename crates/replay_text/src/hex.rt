@@ -2,7 +2,7 @@
 ghost use Rattle.std.specs.Prelude.{◌≤◌, ◌<◌, ◌≡◌, IfSome, length};
 ghost use Rattle.replay_text.specs.Hex.{digit_of, glyph_of, pair_of, decoded_of, decoded_to};
 
-// A digit's value in either case.
+// A digit's value in either case. Ranges, since `to_digit` of std is of a char and gives a u32, so both would be converted.
 #[tactic(auto, unfolding(crate::specs::Hex::digit_of))]
 pub fn digit(b: u8) -> Option<u8>
     ensures value { result ≡ digit_of b }

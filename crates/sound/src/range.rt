@@ -1,5 +1,5 @@
-// Whether the sound's fields are in range. No test of an array's element is skipped. Each fold is one line of std's; a function of the
-// test, for these and for those of memory and board_state, would have a contract longer than the folds.
+// Whether the sound's fields are in range. No test of an array's element is skipped. Each is one fold of std's or a loop as short; a
+// function of the test, for these and for those of memory and board_state, would have a contract longer than they are.
 
 ghost use Rattle.std.specs.Prelude.{◌≡◌};
 ghost use Rattle.limits.specs.Every.{every};

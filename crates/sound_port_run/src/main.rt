@@ -8,15 +8,15 @@ use sound::audio::Audio;
 use sound_port::Port;
 use std::io;
 
-// How many of the bytes are those that as many calls of `read_register` give.
-fn agreeing(audio: Audio, bytes: &[u8]) -> usize
+// How many of the bytes are those that as many calls of `read_register` give. Counted by hand: each turn steps the chip, which a closure
+// that a `filter` calls would do out of sight.
+fn agreeing(mut audio: Audio, bytes: &[u8]) -> usize
     requires { audio.addr < 128 }
     ensures { result ≡ agree bytes.now audio }
 {
-    let mut a = audio;
     let mut same: usize = 0;
     for &byte in bytes {
-        if a.read_register(0x4800) == byte {
+        if audio.read_register(0x4800) == byte {
             same += 1;
         }
     }

@@ -13,9 +13,9 @@ returns-in_err-check_battery c = rw (errs _ _ c.from_residual.ensures.1, ← c.i
 pub battery_start-requires : goal.battery_start-requires
 battery_start-requires c = (memory-good _ (battery-good _ _ (sym c.in_ok-check_battery.ensures)).arena.good).ranged.sized
 
-pub get_battery-after-requires : goal.get_battery-after-requires
-get_battery-after-requires c = rw c.battery_start.ensures (battery-good _ _ (sym c.in_ok-check_battery.ensures)).inside
+pub get_battery-s-requires : goal.get_battery-s-requires
+get_battery-s-requires c = rw c.battery_start.ensures (battery-good _ _ (sym c.in_ok-check_battery.ensures)).inside
 
 pub returns : goal.returns
 unfolding restore_state
-returns c = rw (← c.in_ok-check_battery.ensures, c.get_battery-after.ensures, c.battery_start.ensures)
+returns c = rw (← c.in_ok-check_battery.ensures, c.get_battery-s.ensures, c.battery_start.ensures)

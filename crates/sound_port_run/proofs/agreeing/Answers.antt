@@ -23,12 +23,12 @@ loop-byte-preserved c =
     let l = c.args.bytes.now in
     let i = c.loop-byte.byte-index in elim c.if-read_register-byte.branch [
       | then-read_register-byte w ↦
-          next l c.loop-byte.a i c.loop-byte.same 1 _ _ _ _ c.loop-byte-test.true c.read_register.ensures
+          next l c.loop-byte.audio i c.loop-byte.same 1 _ _ _ _ c.loop-byte-test.true c.read_register.ensures
           (sym (ap {B = ℕ} (λ b. cond b 1 0) (eq-eqb _ _ w.if-read_register-byte.true))) w.same-is (omega arith) c.loop-byte.invariant
       | else-read_register-byte w ↦
-          next l c.loop-byte.a i c.loop-byte.same 0 _ _ _ _ c.loop-byte-test.true c.read_register.ensures
+          next l c.loop-byte.audio i c.loop-byte.same 0 _ _ _ _ c.loop-byte-test.true c.read_register.ensures
           (sym (ap {B = ℕ} (λ b. cond b 1 0) (ne_eqb _ _ w.if-read_register-byte.false))) (omega arith) (omega arith) c.loop-byte.invariant
     ]
 
 pub returns : goal.returns
-returns c = omega (arith, c.loop-byte.invariant.2, agree-end c.args.bytes.now c.loop-byte.a c.loop-byte.byte-index (omega arith))
+returns c = omega (arith, c.loop-byte.invariant.2, agree-end c.args.bytes.now c.loop-byte.audio c.loop-byte.byte-index (omega arith))

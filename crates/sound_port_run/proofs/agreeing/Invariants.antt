@@ -5,4 +5,4 @@ use Rattle.sound_port_run.proofs.agreeing.Given as goal
 
 abbrev pub invariant-loop-byte : goal.invariant-loop-byte
 invariant-loop-byte l =
-    (l.same ≤ l.byte-index) × (l.a.addr < 128) × (l.same + agree (drop l.byte-index l.bytes) l.a ≡ agree l.bytes l.initial.a)
+    (l.same ≤ l.byte-index) × (l.audio.addr < 128) × (l.same + agree (drop l.byte-index l.bytes) l.audio ≡ agree l.bytes l.initial.audio)

@@ -7,18 +7,18 @@ use Rattle.bits.proofs.words.load.Goals as goal
 pub loop-b-init : goal.loop-b-init
 loop-b-init c = (load-zero c.args.acc [], omega arith)
 
-pub overflow_mul-a : goal.overflow_mul-a
-overflow_mul-a c =
+pub overflow_mul-acc : goal.overflow_mul-acc
+overflow_mul-acc c =
     let e = length-part c.args.img.now c.args.at c.args.k (omega arith) in
-    omega (arith, load_fits c.args.acc c.loop-b.b-index c.loop-b.a (omega arith) (omega arith) c.loop-b.invariant.1)
+    omega (arith, load_fits c.args.acc c.loop-b.b-index c.loop-b.acc (omega arith) (omega arith) c.loop-b.invariant.1)
 
-pub overflow_add-a : goal.overflow_add-a
-overflow_add-a c =
+pub overflow_add-acc : goal.overflow_add-acc
+overflow_add-acc c =
     let e = length-part c.args.img.now c.args.at c.args.k (omega arith) in
     omega (
       arith,
       part_lt c.args.img.now c.args.at c.args.k c.loop-b.b-index (λ i. (c.type_inv.img i).fits) (omega arith),
-      load_fits c.args.acc c.loop-b.b-index c.loop-b.a (omega arith) (omega arith) c.loop-b.invariant.1,
+      load_fits c.args.acc c.loop-b.b-index c.loop-b.acc (omega arith) (omega arith) c.loop-b.invariant.1,
     )
 
 pub loop-b-preserved : goal.loop-b-preserved
@@ -26,8 +26,8 @@ loop-b-preserved c =
     let e = length-part c.args.img.now c.args.at c.args.k (omega arith) in
     let b : c.from.result < 256 = rw c.from.ensures
     (part_lt c.args.img.now c.args.at c.args.k c.loop-b.b-index (λ i. (c.type_inv.img i).fits) (omega arith)) in (
-      rw c.from.ensures (load-suc c.args.acc c.loop-b.a _ c.loop-b.b-index c.loop-b-test.true c.loop-b.invariant.0),
-      load-small c.args.acc c.loop-b.a _ c.loop-b.b-index c.loop-b.invariant.1 b,
+      rw c.from.ensures (load-suc c.args.acc c.loop-b.acc _ c.loop-b.b-index c.loop-b-test.true c.loop-b.invariant.0),
+      load-small c.args.acc c.loop-b.acc _ c.loop-b.b-index c.loop-b.invariant.1 b,
     )
 
 pub returns : goal.returns

@@ -5,4 +5,4 @@ use Rattle.bits.proofs.words.load.Given as goal
 
 abbrev pub invariant-loop-b : goal.invariant-loop-b
 invariant-loop-b l =
-    (l.a ≡ l.acc * 2 ^ (l.b-index * 8) + word_of (take l.b-index l.b-items)) × (l.a < (l.acc + 1) * 2 ^ (l.b-index * 8))
+    (l.acc ≡ l.initial.acc * 2 ^ (l.b-index * 8) + word_of (take l.b-index l.b-items)) × (l.acc < (l.initial.acc + 1) * 2 ^ (l.b-index * 8))
