@@ -56,7 +56,7 @@ static void load(struct host *h) {
     h->arena = (uint8_t *)malloc(h->at.length);
     if (!h->arena) stop("load", "no memory for the arena");
     accepted("load", namco163_load_blocks(h->image, sizeof h->image, h->arena, h->at.length, h->directory, NAMCO163_PLACES, MAPPER, 0, 0, 1,
-                                          PRG_ROM, PRG_RAM, BATTERY, CHR, CHR_IS_ROM, CIRAM, 0));
+                                          PRG_ROM, PRG_RAM, BATTERY, CHR, CHR_IS_ROM, CIRAM, 0, 0, 0));
     for (int i = 0; i < PRG_ROM; i++) h->arena[h->at.prg_rom + (size_t)i] = (uint8_t)(0xB0 + i / BANK);
     printf("Loaded a Namco 163 (mapper 19): PRG-ROM %d bytes, PRG-RAM %d bytes, an arena of %lu bytes.\n", PRG_ROM, PRG_RAM,
            (unsigned long)h->at.length);

@@ -42,7 +42,7 @@ extern "C" {
 
 /* The version of this header and of the archive that belongs to it. */
 #define NAMCO163_VERSION_MAJOR 0
-#define NAMCO163_VERSION_MINOR 8
+#define NAMCO163_VERSION_MINOR 9
 #define NAMCO163_VERSION_PATCH 0
 #define NAMCO163_TEXT_OF(x) #x
 #define NAMCO163_TEXT(x) NAMCO163_TEXT_OF(x)
@@ -72,6 +72,8 @@ extern "C" {
 
 /* Bits of the options, the last byte of an image of 308 (namco163_options). */
 #define NAMCO163_F800_PROTECTS 0x80u /* writes to F800..FFFF protect the work RAM of a 163 */
+#define NAMCO163_SIGNED_LEVELS 0x40u /* a channel's level has a sign */
+#define NAMCO163_PLAIN_SUM 0x20u     /* channels are added up and not averaged */
 
 /* Why a call was refused, in the order in which it is checked: the first that holds is the answer. `write`, `load` stand for
  * namco163_write_blocks, namco163_load_options and namco163_load_blocks too. */
@@ -118,29 +120,36 @@ uint64_t namco163_load(uint8_t *image, size_t image_len, uint8_t *arena, size_t 
 
 /* ---- Options, and the two lengths of an image
  *
- * A cartridge has one option, which its load chooses and no later call changes:
+ * A cartridge has three options, each a yes or no, which its load chooses and no later call changes, resets of both kinds included:
  *   f800_protects  what a write to F800..FFFF does to the work RAM of a 163, besides setting the sound address.
  *                  No:  nothing; the work RAM of a 163 takes every store. This is what the emulator does that the library was made from.
  *                  Yes: it protects, as the NESdev wiki has it of the board. A byte of 40..4F opens the work RAM, but for 2 KiB for each
  *                       of bits 0 to 3 that is set: 6000..67FF, 6800..6FFF, 7000..77FF, 7800..7FFF. Any other byte protects all of it, and
  *                       on a fresh 163 all is protected until such a write. A CPU write to a protected address stores nothing; reads, and
  *                       what the host itself puts into the arena, are not hindered.
- * With yes such a write can change page table entries: what is open has the writable flag, so masks have the bits of 6000..7FFF where it
- * changes, and blocks there are dropped. After a hard reset the entries stay as they are until the next write that maps pages. On a 175 and
- * a 340 the option shows in nothing.
+ *   signed_levels  what a sample nibble of 0..7 is worth, times the channel's volume of 0..15.
+ *                  No:  248..255, as in that emulator, so that a channel lies in 0..3825 and a wave that crosses its middle leaps.
+ *                  Yes: -8..-1, as the NESdev wiki has it, so that a channel lies in -120..105, and one that starts brings no offset.
+ *   plain_sum      how the channels in use become one output.
+ *                  No:  their average, as in that emulator: a channel that is added makes each of the others quieter.
+ *                  Yes: their sum, so that no channel's loudness depends on how many there are.
+ * With f800_protects a write to F800..FFFF can change page table entries: what is open has the writable flag, so masks have the bits of
+ * 6000..7FFF where it changes, and blocks there are dropped. After a hard reset the entries stay as they are until the next write that maps
+ * pages. On a 175 and a 340 the option shows in nothing. The other two show in samples, and in what the image holds of them, alone;
+ * namco163_sample says between which ends a sample lies.
  *
- * The option is kept in the image's 308th byte, so a cartridge with it needs an image of NAMCO163_OPTIONS_IMAGE_SIZE; into 307 bytes its
- * load is refused by 1. Without the option either length will do. Every call takes both lengths, and writes the image back at the length
- * that it was lent; 307 bytes are read as an image without options.
+ * Options are kept in the image's 308th byte, so a cartridge with one or more needs an image of NAMCO163_OPTIONS_IMAGE_SIZE; into 307 bytes
+ * its load is refused by 1. Without any either length will do. Every call takes both lengths, and writes the image back at the length that
+ * it was lent; 307 bytes are read as an image without options.
  *
  * So an image of 307 bytes may be lengthened by one byte of 0, and an image of 308 whose last byte is 0 may be cut to 307: the state is the
- * same. Where the last byte is not 0 an image must not be cut: what is left is taken, as a cartridge without the option. */
+ * same. Where the last byte is not 0 an image must not be cut, nor that byte be changed: what comes may be taken, as another cartridge. */
 
-/* A load (namco163_load) that chooses the option: f800_protects is 0 for no, any other number for yes. namco163_load is this with 0.
+/* A load (namco163_load) that chooses the options: of each number 0 is no, any other yes. namco163_load is this with three times 0.
  * Answers the refusal number alone: 0, or 1, 4, 5, 6, 7. */
 uint64_t namco163_load_options(uint8_t *image, size_t image_len, uint8_t *arena, size_t arena_len, uint64_t mapper, uint8_t submapper,
                                uint8_t flags, uint64_t in_database, uint64_t prg_rom, uint64_t prg_ram, uint64_t battery, uint64_t chr,
-                               uint64_t chr_ram, uint64_t ciram, uint64_t f800_protects);
+                               uint64_t chr_ram, uint64_t ciram, uint64_t f800_protects, uint64_t signed_levels, uint64_t plain_sum);
 
 /* ---- The other calls */
 
@@ -169,7 +178,7 @@ uint64_t namco163_run(uint8_t *image, size_t image_len, uint8_t *samples, size_t
 
 /* The console's reset: 0 soft (button), 1 hard (power). Both clear the sound chip with its RAM; hard also clears the IRQ counter, takes the
  * line down and clears the select and protect registers. No page table entry changes, but the next write that maps pages shows the first
- * page of CIRAM in all nametables of a 163 and, after a hard reset, protects its work RAM where F800 does.
+ * page of CIRAM in all nametables of a 163 and, after a hard reset, protects its work RAM where F800 does. The options stay.
  * Answers the refusal number alone: 0, or 1, 2, 3. */
 uint64_t namco163_reset(uint8_t *image, size_t image_len, uint64_t kind);
 
@@ -212,11 +221,12 @@ uint64_t namco163_lookup(const uint64_t *directory, size_t places, uint16_t star
  * start holds. */
 uint64_t namco163_find(const uint64_t *directory, size_t places, uint16_t start);
 
-/* A load (namco163_load_options) that also empties the directory, whatever it held. f800_protects of 0 is the load without an option.
+/* A load (namco163_load_options) that also empties the directory, whatever it held. With 0 for each of the last three it has no option.
  * Answers the refusal number alone: 0, or 1, 2 (not 256 places), 4, 5, 6, 7. */
 uint64_t namco163_load_blocks(uint8_t *image, size_t image_len, uint8_t *arena, size_t arena_len, uint64_t *directory, size_t places,
                               uint64_t mapper, uint8_t submapper, uint8_t flags, uint64_t in_database, uint64_t prg_rom, uint64_t prg_ram,
-                              uint64_t battery, uint64_t chr, uint64_t chr_ram, uint64_t ciram, uint64_t f800_protects);
+                              uint64_t battery, uint64_t chr, uint64_t chr_ram, uint64_t ciram, uint64_t f800_protects,
+                              uint64_t signed_levels, uint64_t plain_sum);
 
 /* A CPU write (namco163_write) that also drops blocks. The answer, image and arena are those of namco163_write; refusal 1, 2 (of the image
  * or of the directory), 7, 8. Which blocks went is not in the answer: their starts find none from now on. */
@@ -277,7 +287,12 @@ static inline size_t namco163_most_samples(uint32_t clocks) {
 }
 
 /* The sample whose four bytes (a 32-bit IEEE float, most significant byte first) start here; sample i of a run starts at byte 4 * i.
- * It is never negative and at most 0.3825. */
+ * By the cartridge's options it lies in
+ *   0..0.3825         without signed_levels and plain_sum
+ *   0..3.06           with plain_sum
+ *   -0.012..0.0105    with signed_levels
+ *   -0.096..0.084     with both
+ * where each end is its nearest float; and it is never negative zero. */
 static inline float namco163_sample(const uint8_t *bytes) {
     uint32_t bits = (uint32_t)bytes[0] << 24 | (uint32_t)bytes[1] << 16 | (uint32_t)bytes[2] << 8 | (uint32_t)bytes[3];
     float sample;
@@ -351,9 +366,10 @@ static inline struct namco163_page namco163_chr_entry(const uint8_t *image, uint
     return namco163_entry(image, NAMCO163_PRG_PAGES + addr / NAMCO163_PAGE_SIZE % NAMCO163_CHR_PAGES);
 }
 
-/* The options of an image of so many bytes, NAMCO163_F800_PROTECTS or 0. An image of 307 bytes has none. */
+/* The options of an image of so many bytes: NAMCO163_F800_PROTECTS, NAMCO163_SIGNED_LEVELS, NAMCO163_PLAIN_SUM, together or none (0). An
+ * image of 307 bytes has none. */
 static inline unsigned namco163_options(const uint8_t *image, size_t image_len) {
-    return image_len == NAMCO163_OPTIONS_IMAGE_SIZE ? image[NAMCO163_IMAGE_SIZE] & NAMCO163_F800_PROTECTS : 0;
+    return image_len == NAMCO163_OPTIONS_IMAGE_SIZE ? image[NAMCO163_IMAGE_SIZE] & 0xE0u : 0;
 }
 
 /* 1 while the board holds the IRQ line up, else 0. */

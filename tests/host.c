@@ -85,8 +85,9 @@ static void test_sizes(void) {
     EQUAL(namco163_arena_length(0, 0, 0, 262145, 0), 0);
     EQUAL(namco163_arena_length(0, 0, 0, 0, 4097), 0);
     EQUAL(namco163_arena_length((uint64_t)-1, 0, 0, 0, 0), 0);
-    CHECK(rom.prg_rom == 1024 && rom.chr == 33792 && rom.prg_ram == 41984 && rom.battery == 50176 && rom.ciram == 51200 && rom.length == ARENA);
-    CHECK(ram.prg_rom == 1024 && ram.prg_ram == 33792 && ram.battery == 41984 && ram.chr == 43008 && ram.ciram == 51200 && ram.length == ARENA);
+    CHECK(rom.prg_rom == 1024 && rom.chr == 33792 && rom.prg_ram == 41984 && rom.battery == 50176 && rom.ciram == 51200);
+    CHECK(ram.prg_rom == 1024 && ram.prg_ram == 33792 && ram.battery == 41984 && ram.chr == 43008 && ram.ciram == 51200);
+    CHECK(rom.length == ARENA && ram.length == ARENA);
     EQUAL(namco163_most_samples(0), 0);
     EQUAL(namco163_most_samples(1), 1);
     EQUAL(namco163_most_samples(15), 1);
@@ -212,15 +213,18 @@ static void test_reset(void) {
     EQUAL(image[23], 0);
 }
 
-/* Sets entry k of both tables, PRG before CHR, as a lent image may have it. */
-static void lend_entry(unsigned k, unsigned page, unsigned writable) {
-    unsigned entry = page * 2 + writable, at = 1544 + 11 * k, b;
-    for (b = 0; b < 11; b++) {
+/* Sets so many bits of the image from one on (H1), as a lent image may have them. */
+static void lend_bits(unsigned at, unsigned width, uint32_t value) {
+    unsigned b;
+    for (b = 0; b < width; b++) {
         uint8_t mask = (uint8_t)(0x80 >> ((at + b) % 8));
-        if (entry >> (10 - b) & 1) image[(at + b) / 8] |= mask;
+        if (value >> (width - 1 - b) & 1) image[(at + b) / 8] |= mask;
         else image[(at + b) / 8] &= (uint8_t)~mask;
     }
 }
+
+/* Sets entry k of both tables, PRG before CHR. */
+static void lend_entry(unsigned k, unsigned page, unsigned writable) { lend_bits(1544 + 11 * k, 11, page * 2 + writable); }
 
 /* Sets PRG entries from `first` on to consecutive pages with the writable flag. */
 static void lend_prg(unsigned first, unsigned page, unsigned count) {
@@ -474,7 +478,7 @@ static uint64_t load_blocks(uint64_t mapper, uint8_t submapper, uint64_t known, 
     lent = namco163_arena_length(prg_rom, prg_ram, 128, 8192, 2048);
     image_lent = NAMCO163_IMAGE_SIZE;
     return namco163_load_blocks(image, NAMCO163_IMAGE_SIZE, arena, lent, directory, NAMCO163_PLACES, mapper, submapper, 0, known, prg_rom,
-                                prg_ram, 128, 8192, 0, 2048, 0);
+                                prg_ram, 128, 8192, 0, 2048, 0, 0, 0);
 }
 static uint64_t load_p_blocks(void) { return load_blocks(19, 0, 1, 32768, 8192); }
 static uint64_t add(unsigned start, uint64_t length, uint32_t number) {
@@ -766,14 +770,14 @@ static void test_refused_blocks(void) {
     EQUAL(load_p_blocks(), 0);
     EQUAL(add(0x8000, 16, 7), 0);
     keep();
-    EQUAL(namco163_load_blocks(image, 306, arena, 0, directory, 255, 20, 0, 0, 1, 524289, 0, 0, 0, 0, 0, 0), NAMCO163_IMAGE_LENGTH);
-    EQUAL(namco163_load_blocks(image, 307, arena, 0, directory, 255, 20, 0, 0, 1, 524289, 0, 0, 0, 0, 0, 0), NAMCO163_OUT_OF_RANGE);
-    EQUAL(namco163_load_blocks(image, 307, arena, lent, directory, 257, 19, 0, 0, 1, 32768, 8192, 128, 8192, 0, 0, 0),
+    EQUAL(namco163_load_blocks(image, 306, arena, 0, directory, 255, 20, 0, 0, 1, 524289, 0, 0, 0, 0, 0, 0, 0, 0), NAMCO163_IMAGE_LENGTH);
+    EQUAL(namco163_load_blocks(image, 307, arena, 0, directory, 255, 20, 0, 0, 1, 524289, 0, 0, 0, 0, 0, 0, 0, 0), NAMCO163_OUT_OF_RANGE);
+    EQUAL(namco163_load_blocks(image, 307, arena, lent, directory, 257, 19, 0, 0, 1, 32768, 8192, 128, 8192, 0, 0, 0, 0, 0),
           NAMCO163_OUT_OF_RANGE);
-    EQUAL(namco163_load_blocks(image, 307, arena, 0, directory, 256, 20, 0, 0, 1, 524289, 0, 0, 0, 0, 0, 0), NAMCO163_MAPPER);
-    EQUAL(namco163_load_blocks(image, 307, arena, 0, directory, 256, 19, 0, 0, 1, 524289, 0, 0, 0, 0, 0, 0), NAMCO163_SIZE);
-    EQUAL(namco163_load_blocks(image, 307, arena, 0, directory, 256, 19, 0, 0, 1, 32768, 0, 0, 0, 0, 0, 0), NAMCO163_NO_BATTERY);
-    EQUAL(namco163_load_blocks(image, 307, arena, 0, directory, 256, 19, 0, 0, 1, 32768, 8192, 128, 8192, 0, 2048, 0),
+    EQUAL(namco163_load_blocks(image, 307, arena, 0, directory, 256, 20, 0, 0, 1, 524289, 0, 0, 0, 0, 0, 0, 0, 0), NAMCO163_MAPPER);
+    EQUAL(namco163_load_blocks(image, 307, arena, 0, directory, 256, 19, 0, 0, 1, 524289, 0, 0, 0, 0, 0, 0, 0, 0), NAMCO163_SIZE);
+    EQUAL(namco163_load_blocks(image, 307, arena, 0, directory, 256, 19, 0, 0, 1, 32768, 0, 0, 0, 0, 0, 0, 0, 0), NAMCO163_NO_BATTERY);
+    EQUAL(namco163_load_blocks(image, 307, arena, 0, directory, 256, 19, 0, 0, 1, 32768, 8192, 128, 8192, 0, 2048, 0, 0, 0),
           NAMCO163_ARENA_LENGTH);
     EQUAL(namco163_write_blocks(image, 309, arena, 0, directory, 256, 0, 0), NAMCO163_IMAGE_LENGTH);
     EQUAL(namco163_write_blocks(image, 307, arena, ARENA - 1, directory, 256, 0, 0), NAMCO163_ARENA_LENGTH);
@@ -790,11 +794,11 @@ static void test_refused_blocks(void) {
 
 /* ---- Options, and the two lengths of an image */
 
-/* A load of layout P with so much PRG-RAM, by an image of so many bytes and the call with options. */
+/* A load of layout P with so much PRG-RAM, by an image of so many bytes and the call with options, of which it chooses the edition. */
 static uint64_t load_edition(size_t image_len, uint64_t mapper, uint8_t submapper, uint64_t known, uint64_t prg_ram, uint64_t yes) {
     lent = namco163_arena_length(32768, prg_ram, 128, 8192, 2048);
     image_lent = image_len;
-    return namco163_load_options(image, image_len, arena, lent, mapper, submapper, 0, known, 32768, prg_ram, 128, 8192, 0, 2048, yes);
+    return namco163_load_options(image, image_len, arena, lent, mapper, submapper, 0, known, 32768, prg_ram, 128, 8192, 0, 2048, yes, 0, 0);
 }
 /* P, D and U of the new edition. */
 static uint64_t load_new(uint64_t mapper, uint64_t known) { return load_edition(308, mapper, 0, known, 8192, 1); }
@@ -839,6 +843,7 @@ static void test_options(void) {
     EQUAL(NAMCO163_IMAGE_SIZE, 307);
     EQUAL(NAMCO163_OPTIONS_IMAGE_SIZE, 308);
     EQUAL(namco163_options(zeros, 308), 0);
+    CHECK(NAMCO163_F800_PROTECTS == 0x80 && NAMCO163_SIGNED_LEVELS == 0x40 && NAMCO163_PLAIN_SUM == 0x20);
     EQUAL(load_new(19, 1), 0);
     EQUAL(image[307], 0x80);
     EQUAL(namco163_options(image, 308), NAMCO163_F800_PROTECTS);
@@ -850,36 +855,48 @@ static void test_options(void) {
     CHECK(!strcmp(namco163_refusal_text(2), "the image holds a field out of range or an unused option bit, or the directory is unfit"));
 }
 
+/* Numbers that are a yes, though their low 32 bits are 0. */
+#define BIT_32 ((uint64_t)1 << 32)
+#define BIT_63 ((uint64_t)1 << 63)
+
 /* N1, N20, H10: loads into images of each length, by the call with options and by that with a directory. What a refused one was lent stays;
  * an accepted one writes no byte behind its image. */
 static void test_option_loads(void) {
     static const struct {
         size_t image_len;
-        uint64_t mapper, prg_rom, battery, f800_protects, answer;
+        uint64_t mapper, prg_rom, battery, yes[3], answer;
         unsigned options; /* of an accepted load, what byte 307 becomes */
     } loads[] = {
-        {307, 19, 32768, 128, 0, 0, 0xA5}, {308, 19, 32768, 128, 0, 0, 0x00}, {308, 19, 32768, 128, 1, 0, 0x80},
-        {308, 19, 32768, 128, 256, 0, 0x80}, {308, 210, 32768, 128, (uint64_t)1 << 63, 0, 0x80}, {307, 19, 32768, 128, 1, 1, 0},
-        {307, 19, 32768, 128, (uint64_t)1 << 32, 1, 0}, {307, 20, 524289, 0, 1, 1, 0}, {307, 20, 524289, 0, 0, 4, 0},
-        {308, 20, 524289, 0, 1, 4, 0}, {308, 19, 524289, 0, 1, 5, 0}, {308, 19, ((uint64_t)1 << 32) + 32768, 128, 1, 5, 0},
-        {308, 19, 32768, 0, 1, 6, 0}, {308, 19, 1024, 128, 1, 7, 0}, {306, 19, 32768, 128, 0, 1, 0}, {309, 19, 32768, 128, 0, 1, 0},
-        {306, 19, 32768, 128, 1, 1, 0}, {309, 20, 32768, 128, 1, 1, 0}, {0, 19, 32768, 128, 0, 1, 0},
+        {307, 19, 32768, 128, {0, 0, 0}, 0, 0xA5}, {308, 19, 32768, 128, {0, 0, 0}, 0, 0x00}, {308, 19, 32768, 128, {1, 0, 0}, 0, 0x80},
+        {308, 19, 32768, 128, {0, 1, 0}, 0, 0x40}, {308, 19, 32768, 128, {0, 0, 1}, 0, 0x20}, {308, 210, 32768, 128, {0, 2, 3}, 0, 0x60},
+        {308, 19, 32768, 128, {256, 0, 256}, 0, 0xA0}, {308, 210, 32768, 128, {BIT_63, BIT_63, 0}, 0, 0xC0},
+        {308, 19, 32768, 128, {BIT_32, BIT_32, BIT_32}, 0, 0xE0}, {307, 19, 32768, 128, {1, 0, 0}, 1, 0},
+        {307, 19, 32768, 128, {0, 1, 0}, 1, 0}, {307, 19, 32768, 128, {0, 0, 1}, 1, 0}, {307, 19, 32768, 128, {BIT_32, 0, 0}, 1, 0},
+        {307, 19, 32768, 128, {0, BIT_32, 0}, 1, 0}, {307, 19, 32768, 128, {0, 0, BIT_63}, 1, 0}, {307, 20, 524289, 0, {1, 0, 0}, 1, 0},
+        {307, 20, 524289, 0, {0, 1, 1}, 1, 0}, {307, 20, 524289, 0, {0, 0, 0}, 4, 0}, {308, 20, 524289, 0, {1, 1, 1}, 4, 0},
+        {308, 19, 524289, 0, {0, 1, 0}, 5, 0}, {308, 19, BIT_32 + 32768, 128, {1, 0, 0}, 5, 0}, {308, 19, 32768, 0, {0, 0, 1}, 6, 0},
+        {308, 19, 1024, 128, {1, 1, 0}, 7, 0}, {306, 19, 32768, 128, {0, 0, 0}, 1, 0}, {309, 19, 32768, 128, {0, 0, 0}, 1, 0},
+        {306, 19, 32768, 128, {1, 0, 0}, 1, 0}, {309, 20, 32768, 128, {0, 1, 1}, 1, 0}, {0, 19, 32768, 128, {0, 0, 0}, 1, 0},
     };
     size_t k;
     for (k = 0; k < 2 * sizeof loads / sizeof loads[0]; k++) {
         size_t at = k / 2, len = loads[at].image_len;
-        uint64_t rom = loads[at].prg_rom, mapper = loads[at].mapper, bytes = loads[at].battery, yes = loads[at].f800_protects;
+        uint64_t rom = loads[at].prg_rom, mapper = loads[at].mapper, bytes = loads[at].battery;
+        const uint64_t *yes = loads[at].yes;
         memset(image, 0xA5, sizeof image);
         memset(directory, 0, sizeof directory);
         keep();
-        EQUAL(k % 2 ? namco163_load_blocks(image, len, arena, ARENA, directory, 256, mapper, 0, 0, 1, rom, 8192, bytes, 8192, 0, 0, yes)
-                    : namco163_load_options(image, len, arena, ARENA, mapper, 0, 0, 1, rom, 8192, bytes, 8192, 0, 0, yes),
+        EQUAL(k % 2 ? namco163_load_blocks(image, len, arena, ARENA, directory, 256, mapper, 0, 0, 1, rom, 8192, bytes, 8192, 0, 0,
+                                           yes[0], yes[1], yes[2])
+                    : namco163_load_options(image, len, arena, ARENA, mapper, 0, 0, 1, rom, 8192, bytes, 8192, 0, 0,
+                                            yes[0], yes[1], yes[2]),
               loads[at].answer);
         if (loads[at].answer) CHECK(kept());
         else CHECK(image[307] == loads[at].options && image[308] == 0xA5);
     }
-    EQUAL(namco163_load_blocks(image, 307, arena, ARENA, directory, 255, 19, 0, 0, 1, 32768, 8192, 128, 8192, 0, 2048, 1), 1);
-    EQUAL(namco163_load_blocks(image, 308, arena, ARENA, directory, 255, 19, 0, 0, 1, 32768, 8192, 128, 8192, 0, 2048, 1), 2);
+    EQUAL(namco163_load_blocks(image, 307, arena, ARENA, directory, 255, 19, 0, 0, 1, 32768, 8192, 128, 8192, 0, 2048, 1, 0, 0), 1);
+    EQUAL(namco163_load_blocks(image, 307, arena, ARENA, directory, 255, 19, 0, 0, 1, 32768, 8192, 128, 8192, 0, 2048, 0, 0, 1), 1);
+    EQUAL(namco163_load_blocks(image, 308, arena, ARENA, directory, 255, 19, 0, 0, 1, 32768, 8192, 128, 8192, 0, 2048, 0, 1, 1), 2);
     EQUAL(namco163_load(image, 308, arena, ARENA, 19, 0, 0, 1, 32768, 8192, 128, 8192, 0, 2048), 0);
     CHECK(image[307] == 0 && image[308] == 0xA5);
 }
@@ -1092,8 +1109,8 @@ static void test_image_lengths(void) {
     check_image(306, NAMCO163_IMAGE_LENGTH);
     check_image(309, NAMCO163_IMAGE_LENGTH);
     check_image(0, NAMCO163_IMAGE_LENGTH);
-    for (bit = 0; bit < 7; bit++) {
-        image[307] = (uint8_t)(0x80 | 1 << bit);
+    for (bit = 0; bit < 5; bit++) {
+        image[307] = (uint8_t)(0xE0 | 1 << bit);
         check_image(308, NAMCO163_OUT_OF_RANGE);
         image[307] = (uint8_t)(1 << bit);
         check_image(308, NAMCO163_OUT_OF_RANGE);
@@ -1119,6 +1136,194 @@ static void test_image_lengths(void) {
     EQUAL(write_at(0x8000, 0x00), 0xFF000000);
     EQUAL(open_entries(), 0xFF);
     EQUAL(image[307], 0x80);
+}
+
+/* ---- Signed levels and plain sums */
+
+/* The options of the choices: wrapping average, wrapping sum, signed average, signed sum. */
+enum { CHOICES = 4 };
+static const unsigned choices[CHOICES] = {0x00, 0x20, 0x40, 0x60};
+
+/* A load of layout P with the options of a byte, into 308 bytes. */
+static uint64_t load_with(uint64_t mapper, uint8_t submapper, unsigned options) {
+    lent = ARENA;
+    image_lent = 308;
+    return namco163_load_options(image, 308, arena, ARENA, mapper, submapper, 0, 1, 32768, 8192, 128, 8192, 0, 2048,
+                                 options & NAMCO163_F800_PROTECTS, options & NAMCO163_SIGNED_LEVELS, options & NAMCO163_PLAIN_SUM);
+}
+
+/* Writes a byte of sound RAM by the port. */
+static void set_sound(unsigned addr, unsigned byte) {
+    EQUAL(namco163_refusal(write_at(0xF800, addr)), 0);
+    EQUAL(namco163_refusal(write_at(0x4800, byte)), 0);
+}
+
+/* All eight channels in use, each with this nibble and volume. */
+static void set_chord(unsigned nibble, unsigned volume) {
+    unsigned k;
+    set_sound(0x00, nibble);
+    for (k = 0; k < 8; k++) set_sound(0x47 + 8 * k, volume | (k == 7 ? 0x70 : 0));
+}
+
+/* Two channels: 7 plays nibble 0 and 6 nibble F, both at volume 15. */
+static void set_two_channels(void) {
+    set_sound(0x00, 0xF0);
+    set_sound(0x7F, 0x1F);
+    set_sound(0x76, 0x01);
+    set_sound(0x77, 0x0F);
+}
+
+/* The bits of the k-th sample that was made last, and of `out` in the image. */
+static uint32_t word_at(const uint8_t *bytes) {
+    return (uint32_t)bytes[0] << 24 | (uint32_t)bytes[1] << 16 | (uint32_t)bytes[2] << 8 | (uint32_t)bytes[3];
+}
+static uint32_t sample_bits(size_t k) { return word_at(samples + 4 * k); }
+static uint32_t out_bits(void) { return word_at(image + 165); }
+
+/* S13, S17, H11: each set of options on each kind of cartridge is kept by each call; nothing else of a fresh image goes by the choice. */
+static void test_option_sets(void) {
+    static const struct {
+        uint64_t mapper;
+        uint8_t submapper;
+    } boards[4] = {{19, 0}, {210, 0}, {210, 1}, {210, 2}};
+    unsigned k, options;
+    for (k = 0; k < 4; k++) {
+        for (options = 0; options < 0x100; options += 0x20) {
+            EQUAL(load_with(boards[k].mapper, boards[k].submapper, options & 0x80), 0);
+            keep();
+            EQUAL(load_with(boards[k].mapper, boards[k].submapper, options), 0);
+            CHECK(!memcmp(image, image_before, 307) && image[307] == options);
+            set_two_channels();
+            EQUAL(namco163_refusal(run(100)), 0);
+            EQUAL(read_at(0x4800), 0x0F00);
+            EQUAL(namco163_options(image, 308), options);
+            EQUAL(reset(NAMCO163_SOFT), 0);
+            EQUAL(namco163_options(image, 308), options);
+            EQUAL(namco163_refusal(run(100)), 0);
+            EQUAL(reset(NAMCO163_HARD), 0);
+            EQUAL(namco163_options(image, 308), options);
+        }
+    }
+}
+
+/* S14, S15: two channels in each choice, in one run and clock by clock: samples, and outputs 6 and 7, `out` and the options in the image.
+ * Then the same image with the options of another choice: outputs that it cannot have are refused by 2. */
+static void test_choices(void) {
+    static const uint32_t bits[CHOICES][2] = {
+        {0x3E3E76C8, 0x3E43D70A}, {0x3EBE76C8, 0x3EC3D70A}, {0xBBC49BA6, 0xBA449BA6}, {0xBC449BA6, 0xBAC49BA6}};
+    static const uint8_t outputs[CHOICES][3] = {{0x06, 0x9E, 0x88}, {0x06, 0x9E, 0x88}, {0x06, 0x9F, 0x88}, {0x06, 0x9F, 0x88}};
+    static const uint32_t outs[CHOICES] = {0x44EF1000, 0x456F1000, 0xC0F00000, 0xC1700000};
+    unsigned k, clock, made, other;
+    for (k = 0; k < CHOICES; k++) {
+        EQUAL(load_with(19, 0, choices[k]), 0);
+        set_two_channels();
+        for (clock = made = 0; clock < 45; clock++) {
+            made += namco163_samples(run(1));
+            CHECK(!made || sample_bits(0) == bits[k][made > 1]);
+        }
+        EQUAL(made, 3);
+        keep();
+        EQUAL(load_with(19, 0, choices[k]), 0);
+        set_two_channels();
+        EQUAL(run(45), 0x300);
+        CHECK(sample_bits(0) == bits[k][0] && sample_bits(1) == bits[k][1] && sample_bits(2) == bits[k][1]);
+        CHECK(!memcmp(image, image_before, 308) && !memcmp(image + 162, outputs[k], 3) && out_bits() == outs[k]);
+        EQUAL(image[307], choices[k]);
+        for (other = 0; other < CHOICES; other++) {
+            image[307] = (uint8_t)choices[other];
+            if (k / 2 != other / 2) check_image(308, NAMCO163_OUT_OF_RANGE);
+            else EQUAL(read_at(0x6000), 0);
+        }
+    }
+}
+
+/* S14, S16, C7: behind a reset of either kind the sound is new and the choice the same. */
+static void test_choices_reset(void) {
+    static const uint8_t zeros[16] = {0};
+    static const uint32_t bits[2] = {0x3EBE76C8, 0xBC449BA6};
+    unsigned k;
+    for (k = 0; k < 2 * CHOICES; k++) {
+        unsigned options = choices[k / 2];
+        EQUAL(load_with(19, 0, options), 0);
+        set_two_channels();
+        EQUAL(run(45), 0x300);
+        EQUAL(reset(k % 2), 0);
+        CHECK(!memcmp(image + 153, zeros, sizeof zeros) && image[307] == options);
+        set_sound(0x7F, 0x0F);
+        EQUAL(run(15), 0x100);
+        EQUAL(sample_bits(0), bits[options >> 6]);
+        set_sound(0x7F, 0x00);
+        EQUAL(run(15), 0x100);
+        CHECK(sample_bits(0) == 0 && out_bits() == 0 && !memcmp(image + 153, zeros, sizeof zeros));
+    }
+}
+
+/* R11: the ends of a sample: all eight channels at an end of their level. */
+static void test_sample_ends(void) {
+    static const struct {
+        unsigned options, nibble, volume;
+        uint32_t bits;
+        float sample;
+    } ends[] = {
+        {0x00, 0x8, 15, 0x00000000, 0.0f},    {0x00, 0x7, 15, 0x3EC3D70A, 0.3825f}, {0x20, 0x0, 0, 0x00000000, 0.0f},
+        {0x20, 0x7, 15, 0x4043D70A, 3.06f},   {0x40, 0x0, 15, 0xBC449BA6, -0.012f}, {0x40, 0xF, 15, 0x3C2C0831, 0.0105f},
+        {0x40, 0x0, 0, 0x00000000, 0.0f},     {0x60, 0x0, 15, 0xBDC49BA6, -0.096f}, {0x60, 0xF, 15, 0x3DAC0831, 0.084f},
+        {0x60, 0x4, 0, 0x00000000, 0.0f},     {0x60, 0x7, 1, 0xBA51B717, -0.0008f},
+    };
+    size_t k;
+    for (k = 0; k < sizeof ends / sizeof ends[0]; k++) {
+        EQUAL(load_with(19, 0, ends[k].options), 0);
+        set_chord(ends[k].nibble, ends[k].volume);
+        EQUAL(run(120), 0x800);
+        EQUAL(sample_bits(7), ends[k].bits);
+        CHECK(namco163_sample(samples + 28) == ends[k].sample);
+    }
+}
+
+/* Every call that reads the image takes it: its next refusal shows, and accepted calls write it back as it was. */
+static void check_taken(void) {
+    keep();
+    EQUAL(namco163_read(image, 308, arena, 0, 0), NAMCO163_ARENA_LENGTH);
+    EQUAL(namco163_write(image, 308, arena, 0, 0, 0), NAMCO163_ARENA_LENGTH);
+    EQUAL(namco163_preview(image, 308, arena, 0, 0, 0), NAMCO163_ARENA_LENGTH);
+    EQUAL(run(NAMCO163_CLOCK_LIMIT + 1), NAMCO163_CLOCKS);
+    EQUAL(reset(2), NAMCO163_RESET_KIND);
+    EQUAL(read_at(0x5000), 0);
+    EQUAL(write_at(0x5000, 0), 0);
+    EQUAL(run(0), 0);
+    CHECK(kept());
+}
+
+/* R11, H11: the ends of each output's field and of `out`, by the levels, or by both options, whatever the board. */
+static void test_level_ends(void) {
+    static const unsigned fields[2][2][4] = {
+        {{0, 106, 3720, 3825}, {3826, 3975, 3976, 4095}},
+        {{0, 105, 3976, 4095}, {106, 3720, 3825, 3975}},
+    };
+    static const uint32_t outs[CHOICES][2][4] = {
+        {{0, 1, 0x42D20001, 0x456F1000}, {0x456F1001, 0x80000000, 0x80000001, 0x7FC00000}},
+        {{0, 1, 0x456F1001, 0x46EF1000}, {0x46EF1001, 0x80000000, 0x80000001, 0x7F800000}},
+        {{0, 0x42D20000, 0x80000001, 0xC2F00000}, {0x42D20001, 0x80000000, 0xC2F00001, 0xFF800000}},
+        {{0, 0x44520000, 0x80000001, 0xC4700000}, {0x44520001, 0x80000000, 0xC4700001, 0xFFC00000}},
+    };
+    unsigned k, channel, place;
+    for (k = 0; k < 2 * CHOICES; k++) {
+        unsigned choice = k / 2;
+        EQUAL(load_with(k % 2 ? 210 : 19, (uint8_t)(k % 2), choices[choice] | (k % 2 ? NAMCO163_F800_PROTECTS : 0)), 0);
+        for (channel = 0; channel < 8; channel++) {
+            for (place = 0; place < 8; place++) {
+                lend_bits(1224 + 12 * channel, 12, fields[choice / 2][place / 4][place % 4]);
+                if (place < 4) check_taken();
+                else check_image(308, NAMCO163_OUT_OF_RANGE);
+            }
+            lend_bits(1224 + 12 * channel, 12, 0);
+        }
+        for (place = 0; place < 8; place++) {
+            lend_bits(1320, 32, outs[choice][place / 4][place % 4]);
+            if (place < 4) check_taken();
+            else check_image(308, NAMCO163_OUT_OF_RANGE);
+        }
+    }
 }
 
 /* N20: refusals of a load, in their order: 1 4 5 6 7. */
@@ -1185,44 +1390,18 @@ static void test_rooms(void) {
     EQUAL(namco163_run(image, 307, samples, 4 * NAMCO163_MOST_SAMPLES, NAMCO163_CLOCK_LIMIT), 0x7C200);
 }
 
+static void (*const tests[])(void) = {
+    test_sizes, test_load, test_answers, test_run, test_rooms, test_reset, test_lent_states, test_no_prg_ram, test_lent_zero_page,
+    test_loaded_boards, test_settled, test_settling, test_preview, test_refused_loads, test_refused_calls, test_refused_previews,
+    test_register, test_full_directory, test_dropped, test_short_prg_ram, test_dropped_boards, test_dropped_lent, test_stored,
+    test_load_blocks, test_unfit_directories, test_refused_blocks, test_options, test_option_loads, test_fresh_editions, test_f800,
+    test_f800_resets, test_f800_detection, test_f800_unknown, test_f800_fixed, test_f800_short, test_f800_blocks, test_image_lengths,
+    test_option_sets, test_choices, test_choices_reset, test_sample_ends, test_level_ends,
+};
+
 int main(void) {
-    test_sizes();
-    test_load();
-    test_answers();
-    test_run();
-    test_rooms();
-    test_reset();
-    test_lent_states();
-    test_no_prg_ram();
-    test_lent_zero_page();
-    test_loaded_boards();
-    test_settled();
-    test_settling();
-    test_preview();
-    test_refused_loads();
-    test_refused_calls();
-    test_refused_previews();
-    test_register();
-    test_full_directory();
-    test_dropped();
-    test_short_prg_ram();
-    test_dropped_boards();
-    test_dropped_lent();
-    test_stored();
-    test_load_blocks();
-    test_unfit_directories();
-    test_refused_blocks();
-    test_options();
-    test_option_loads();
-    test_fresh_editions();
-    test_f800();
-    test_f800_resets();
-    test_f800_detection();
-    test_f800_unknown();
-    test_f800_fixed();
-    test_f800_short();
-    test_f800_blocks();
-    test_image_lengths();
+    size_t k;
+    for (k = 0; k < sizeof tests / sizeof tests[0]; k++) tests[k]();
     if (failures) printf("%d of %d checks of the C calls failed\n", failures, checks);
     else printf("%d checks of the C calls\n", checks);
     return failures ? EXIT_FAILURE : EXIT_SUCCESS;

@@ -66,7 +66,7 @@ impl Regs {
 
 impl Namco163 {
     // C7: slots 8..11 are set to CIRAM bank 0; any bank would do, since a game writes them before it reads a nametable. C8: the page tables
-    // show that only once a write makes them anew.
+    // show that only once a write makes them anew. S17: the new sound has the old one's choices.
     #[tactic(auto, unfolding(crate::specs::Reset::reset_chip))]
     pub fn reset(mut self, kind: ResetKind) -> Namco163
         ensures { result ≡ reset_chip self kind }
@@ -75,7 +75,11 @@ impl Namco163 {
         self.nt_bank_enable[8..].fill(true);
         self.chr_banks[8..].fill(0);
         self.prg_ram_written_to = false;
-        self.audio = Audio::new();
+        self.audio = Audio {
+            signed_levels: self.audio.signed_levels,
+            plain_sum: self.audio.plain_sum,
+            ..Audio::new()
+        };
         self
     }
 }

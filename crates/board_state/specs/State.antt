@@ -73,9 +73,22 @@ pub record Known (s : State) : Type 0 where
   pub typed : Typed s
   pub range : InRange s
 
--- ---- L19: a load without options
+-- ---- L19, S13: a load without options
 abbrev pub no_options : Options
-no_options = record { f800_protects = false }
+no_options = record { f800_protects = false; signed_levels = false; plain_sum = false }
+
+-- H10: whether an option is set
+abbrev pub any_option : Options → Bool
+any_option o = o.f800_protects || (o.signed_levels || o.plain_sum)
+
+-- S17: what a state holds of its load's options
+abbrev pub options_in : State → Options
+options_in s =
+    record {
+      f800_protects = s.f800_protects;
+      signed_levels = s.chip.audio.signed_levels;
+      plain_sum = s.chip.audio.plain_sum;
+    }
 
 -- ---- the state with other registers
 

@@ -3,7 +3,7 @@
 
 ghost use Rattle.std.specs.Prelude.{◌≡◌};
 ghost use Rattle.limits.specs.Every.{every};
-ghost use Rattle.board_state.specs.State.{bank_test, mapper_ok, chip_ok, in_range};
+ghost use Rattle.board_state.specs.State.{any_option, options_in, bank_test, mapper_ok, chip_ok, in_range};
 
 use board_chip::namco163::Namco163;
 use limits::BANK_MOST;
@@ -13,10 +13,13 @@ use sound::range::audio_ok;
 
 pub mod none; // none.rt: a state that no call accepts
 
-// What a load may choose (L19): in the edition where F800 protects, work RAM of a 163 takes stores as F800 says.
+// What a load may choose. L19: in the edition where F800 protects, work RAM of a 163 takes stores as F800 says. S13: levels with a sign,
+// and a plain sum of the channels; the sound keeps these two.
 #[derive(Clone, Copy)]
 pub struct Options {
     pub f800_protects: bool,
+    pub signed_levels: bool,
+    pub plain_sum: bool,
 }
 
 // The board's state. Its bytes lie in an arena that the caller lends.
@@ -25,6 +28,28 @@ pub struct State {
     pub chip: Namco163,
     pub memory: Memory,
     pub f800_protects: bool,
+}
+
+impl Options {
+    // H10: whether an option is set.
+    pub fn any(self) -> bool
+        ensures { result ≡ any_option self }
+    {
+        self.f800_protects | (self.signed_levels | self.plain_sum)
+    }
+}
+
+impl State {
+    // S17: what a state holds of its load's options.
+    pub fn options(&self) -> Options
+        ensures { result ≡ options_in self.now }
+    {
+        Options {
+            f800_protects: self.f800_protects,
+            signed_levels: self.chip.audio.signed_levels,
+            plain_sum: self.chip.audio.plain_sum,
+        }
+    }
 }
 
 // No test is skipped.

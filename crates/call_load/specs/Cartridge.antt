@@ -4,7 +4,10 @@ use Rattle.memory.specs.declared.Memory.{Memory}
 use Rattle.memory.specs.declared.layout.MemoryLayout.{MemoryLayout}
 use Rattle.memory.specs.Layout.{within_limits}
 use Rattle.memory_map.specs.New.{new_memory}
+use Rattle.sound.specs.Audio.{with_choice}
+use Rattle.board_chip.specs.declared.namco163.Namco163.{Namco163}
 use Rattle.board_chip.specs.Load.{chip_at_load}
+use Rattle.board_chip.specs.Namco163.{with_audio}
 use Rattle.board_protection.specs.Protection.{remap_banks}
 use Rattle.board_state.specs.declared.Options.{Options}
 use Rattle.board_state.specs.declared.State.{State}
@@ -21,10 +24,14 @@ with_used m used = record { layout = m.layout; battery_ext_len = used; prg_pages
 unfoldable pub memory_at_load : ℕ → MemoryLayout → Memory
 memory_at_load mapper sizes = with_used (new_memory sizes) (cond (eqb mapper 19) 128 0)
 
--- L1, L19: the state after an accepted load: the registers at load (chip), the page tables mapped by them, and the options
+-- S13: a board whose sound has the choices of a load
+abbrev pub chosen : Namco163 → Options → Namco163
+chosen n options = with_audio n (with_choice n.audio options.signed_levels options.plain_sum)
+
+-- L1, L19, S13: the state after an accepted load: the registers at load (chip), the page tables mapped by them, and the options
 unfoldable pub fresh_state : ℕ → ℕ → ℕ → Bool → MemoryLayout → Options → State
 fresh_state mapper sub flags known sizes options =
-    let chip = chip_at_load mapper sub flags known in
+    let chip = chosen (chip_at_load mapper sub flags known) options in
     let protects = options.f800_protects in
     record { chip = chip; memory = remap_banks protects chip (memory_at_load mapper sizes); f800_protects = protects }
 

@@ -3,7 +3,7 @@
 
 ghost use Rattle.std.specs.Prelude.{◌^◌, ◌<◌, ◌≡◌, true, length};
 ghost use Rattle.memory.specs.Layout.{within_limits};
-ghost use Rattle.call_load.specs.Cartridge.{memory_at_load, fresh_state, loaded, load_answer, load_arena, LoadFits};
+ghost use Rattle.call_load.specs.Cartridge.{chosen, memory_at_load, fresh_state, loaded, load_answer, load_arena, LoadFits};
 
 use board_chip::namco163::Namco163;
 use board_protection::remap_banks;
@@ -39,6 +39,15 @@ fn memory_at_load(mapper: u64, sizes: MemoryLayout) -> Memory
     }
 }
 
+// S13: the board with the sound's choices of a load.
+fn chosen(mut chip: Namco163, options: Options) -> Namco163
+    ensures { result ≡ chosen chip options }
+{
+    chip.audio.signed_levels = options.signed_levels;
+    chip.audio.plain_sum = options.plain_sum;
+    chip
+}
+
 // L1, L2: of a mapper that is 19 or 210, and sizes that a load accepts.
 fn fresh_state(cartridge: Cartridge) -> State
     requires { (cartridge.mapper < 2 ^ 16) × LoadFits cartridge.mapper cartridge.sizes }
@@ -52,7 +61,8 @@ fn fresh_state(cartridge: Cartridge) -> State
         sizes,
         options,
     } = cartridge;
-    let chip = Namco163::load(mapper as u16, submapper, flags, known);
+    let board = Namco163::load(mapper as u16, submapper, flags, known);
+    let chip = chosen(board, options);
     let fresh = memory_at_load(mapper, sizes);
     State {
         chip,

@@ -2,13 +2,18 @@
 use Prim.Native.Nat.{ℕ, zero, suc}
 use mathlib.Core.Path.{◌≡◌, refl, sym, ap, ◌∙◌}
 use mathlib.Core.List.{List, [], ◌∷◌, ◌++◌}
+use lib.ListN.{take}
 use Rattle.cut.specs.Calls.{Call, run, other, RunGave, Board, Point, from, start, after_run, noted}
-use Rattle.cut.specs.Always.{AllTyped, NeverRefused, Kept, Never}
+use Rattle.cut.specs.Always.{AllTyped, Each, EachSample, NeverRefused, Kept, Never}
 
 -- the state that a run hands back goes on, whether the run is refused or not
 pub handed-on : {State Sample : Type 0} (q n : ℕ) (g : RunGave State Sample) (p : Point State Sample) → (after_run q n g p).state ≡ g.state
 handed-on zero n g p = refl
 handed-on (suc q) n g p = refl
+
+each_append : {Sample : Type 0} (P : Sample → Type 0) (xs ys : List Sample) → Each P xs → Each P ys → Each P (xs ++ ys)
+each_append P [] ys p q = q
+each_append P (x ∷ xs) ys p q = (p.0, each_append P xs ys p.1 q)
 
 module _ {State Sample Arg Answer : Type 0} (board : Board State Sample Arg Answer) (Typed : Call Sample Arg → Type 0)
     (Holds : State → Type 0)
@@ -36,6 +41,28 @@ module _ {State Sample Arg Answer : Type 0} (board : Board State Sample Arg Answ
       let g = board.other a p.state in
       let rest = never q r calls (from g.state p.count) t.1 (k.other a p.state t.0 h) in
       record { others = (r.other a p.state h, rest.others); runs = rest.runs }
+
+  -- where what is kept makes an accepted run's samples be so, all samples of every list are
+  module _ (P : Sample → Type 0) (samples : (n : ℕ) (lent : List Sample) (s : State) → Holds s → let g = board.run n lent s in
+      g.refusal ≡ 0 → Each P (take g.made g.samples)) where
+    ran : (n : ℕ) (lent : List Sample) (p : Point State Sample) → Holds p.state → Each P p.stretch.samples
+        → let g = board.run n lent p.state in Each P (after_run g.refusal n g p).stretch.samples
+    ran n lent p h e = go (board.run n lent p.state).refusal (samples n lent p.state h)
+      where
+        go : (q : ℕ) → let g = board.run n lent p.state in (q ≡ 0 → Each P (take g.made g.samples))
+            → Each P (after_run q n g p).stretch.samples
+        go zero f = each_append P p.stretch.samples _ e (f refl)
+        go (suc q) f = e
+
+    pub each-sample : (calls : List (Call Sample Arg)) (p : Point State Sample) → AllTyped Typed calls → Holds p.state
+        → Each P p.stretch.samples → EachSample P (noted board calls p).trace
+    unfolding noted
+    each-sample [] p t h e = e
+    each-sample (run n lent ∷ calls) p t h e =
+        let g = board.run n lent p.state in
+        each-sample calls (after_run g.refusal n g p) t.1 (rw (handed-on g.refusal n g p) (k.run n lent p.state t.0 h)) (ran n lent p h e)
+    each-sample (other a ∷ calls) p t h e =
+        let g = board.other a p.state in (e, each-sample calls (from g.state p.count) t.1 (k.other a p.state t.0 h) tt)
 
 -- ---- lists in two parts
 

@@ -17,6 +17,16 @@ abbrev pub NoNumber : ℕ → List ℕ → Type 0
 NoNumber q [] = Unit {0}
 NoNumber q (r ∷ rs) = (r ≡ q → ⊥) × NoNumber q rs
 
+-- each element of a list
+abbrev pub Each : {Sample : Type 0} → (Sample → Type 0) → List Sample → Type 0
+Each P [] = Unit {0}
+Each P (x ∷ xs) = P x × Each P xs
+
+-- C14: each sample of each stretch
+abbrev pub EachSample : {Sample Arg Answer : Type 0} → (Sample → Type 0) → Trace Sample Arg Answer → Type 0
+EachSample P (last w) = Each P w.samples
+EachSample P (then w a r t) = Each P w.samples × EachSample P t
+
 pub record NeverRefused {State Sample Arg Answer : Type 0} (q : ℕ) (o : Observed State Sample Arg Answer) : Type 0 where
   pub others : NoReply q o.trace
   pub runs : NoNumber q o.refusals

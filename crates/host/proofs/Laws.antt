@@ -12,7 +12,7 @@ use Rattle.memory.specs.Range.{Bytes}
 use Rattle.board_state.specs.declared.Options.{Options}
 use Rattle.board_state.specs.declared.State.{State}
 use Rattle.board_state.specs.None.{no_state}
-use Rattle.board_state.specs.State.{Known}
+use Rattle.board_state.specs.State.{any_option, Known}
 use Rattle.board_state.proofs.Range.{known-passes}
 use Rattle.call_refusals.specs.Refusals.{Check, first_of, unless_refused, state_check, load_checks}
 use Rattle.call_refusals.proofs.Laws.{Numbered, NoneHolds, accepted-none, first_done, number_is}
@@ -49,6 +49,10 @@ module _ (img : List ℕ) (own : List Check) (numbered : Numbered own) (e : firs
   in_image =
       let h = none-held in
       known_in img (in-range-accepted img (not-false _ h.0) (not-false _ h.1.0))
+
+-- whether there is room is asked of the options that a load was given
+pub asked : (o : Options) (set r : Bool) (n : ℕ) → set ≡ any_option o → r ≡ room_for set n → r ≡ room_for (any_option o) n
+asked o set r n e f = f ∙ ap (λ (b : Bool). room_for b n) e
 
 -- ---- refused by it, or on with it
 
@@ -172,6 +176,6 @@ module _ (mapper sub flags : ℕ) (known : Bool) (sizes : MemoryLayout) (options
   load_fresh z = ap (λ (x : Loaded). x.state) e ∙ ap (λ (h : Held). h.state) (load-starts (begun z))
 
   -- bytes that hold its options hold its image
-  pub room-fresh : r.refusal ≡ 0 → (n : ℕ) → room_for options.f800_protects n ≡ true → room_for (option_set r.state) n ≡ true
+  pub room-fresh : r.refusal ≡ 0 → (n : ℕ) → room_for (any_option options) n ≡ true → room_for (option_set r.state) n ≡ true
   unfolding fresh_state
   room-fresh z n h = subst (λ (s : State). room_for (option_set s) n ≡ true) (sym (load_fresh z)) h

@@ -4,6 +4,7 @@ use Rattle.std.specs.Prelude.{ℕ, ◌+◌, ◌*◌, ◌^◌, List, [], ◌∷�
 use Rattle.memory.specs.declared.layout.MemoryLayout.{MemoryLayout}
 use Rattle.board_state.specs.declared.Options.{Options}
 use Rattle.board_state.specs.declared.State.{State}
+use Rattle.board_state.specs.State.{any_option}
 use Rattle.call_refusals.specs.Refusals.{Check, first_of, unless_refused, unless_kept, load_checks}
 use Rattle.image_write.specs.Writing.{room_check}
 use Rattle.image_read.specs.Reading.{state_in}
@@ -30,7 +31,7 @@ host_find d start = found_word (found_of (word_at start d))
 
 abbrev pub load_blocks_checks : List ℕ → List ℕ → List ℕ → ℕ → MemoryLayout → Options → List Check
 load_blocks_checks img arena d mapper sizes options =
-    room_check options.f800_protects (length img) ∷ places_check d ∷ load_checks mapper sizes (length arena)
+    room_check (any_option options) (length img) ∷ places_check d ∷ load_checks mapper sizes (length arena)
 
 unfoldable pub host_load_blocks : List ℕ → List ℕ → List ℕ → ℕ → ℕ → ℕ → ℕ → MemoryLayout → Options → Gives
 host_load_blocks img arena d mapper sub flags known sizes options =
@@ -39,7 +40,7 @@ host_load_blocks img arena d mapper sub flags known sizes options =
 
 unfoldable pub host_load_places : List ℕ → List ℕ → List ℕ → ℕ → MemoryLayout → Options → List ℕ
 host_load_places img arena d mapper sizes options =
-    unless_kept (room_check options.f800_protects (length img) ∷ []) d (load_drops d mapper sizes arena)
+    unless_kept (room_check (any_option options) (length img) ∷ []) d (load_drops d mapper sizes arena)
 
 -- ---- CPU write: K5; N1, N2 of the image and of the directory, N7, N8
 

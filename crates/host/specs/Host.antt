@@ -5,6 +5,7 @@ use Rattle.memory.specs.declared.layout.MemoryLayout.{MemoryLayout}
 use Rattle.memory.specs.Layout.{arena_len}
 use Rattle.board_state.specs.declared.Options.{Options}
 use Rattle.board_state.specs.declared.State.{State}
+use Rattle.board_state.specs.State.{any_option}
 use Rattle.call_refusals.specs.Refusals.{Check, unless_refused, kind_check, arena_check, address_check, load_checks}
 use Rattle.call_load.specs.Cartridge.{fresh_state, load_arena}
 use Rattle.image_write.specs.Options.{image_at}
@@ -27,9 +28,10 @@ abbrev pub sizes_of : ℕ → ℕ → ℕ → ℕ → ℕ → ℕ → MemoryLayo
 sizes_of rom ram battery chr writable ciram =
     record { prg_rom = rom; prg_ram = ram; battery_ext = battery; chr = chr; chr_writable = yes writable; ciram = ciram }
 
--- L19: the options of a load
-abbrev pub options_of : ℕ → Options
-options_of protects = record { f800_protects = yes protects }
+-- L19, S13: the options of a load
+abbrev pub options_of : ℕ → ℕ → ℕ → Options
+options_of protects signed plain =
+    record { f800_protects = yes protects; signed_levels = yes signed; plain_sum = yes plain }
 
 -- H4, H6: an accepted load: the image of the fresh state in n bytes (H10), and the arena filled with zeros
 abbrev pub load_gives : ℕ → List ℕ → ℕ → ℕ → ℕ → ℕ → MemoryLayout → Options → Gives
@@ -43,7 +45,7 @@ load_gives n arena mapper sub flags known sizes options =
 -- N20: refused by N1, then by a load's own checks
 abbrev pub host_load_checks : List ℕ → List ℕ → ℕ → MemoryLayout → Options → List Check
 host_load_checks img arena mapper sizes options =
-    room_check options.f800_protects (length img) ∷ load_checks mapper sizes (length arena)
+    room_check (any_option options) (length img) ∷ load_checks mapper sizes (length arena)
 
 unfoldable pub host_load : List ℕ → List ℕ → ℕ → ℕ → ℕ → ℕ → MemoryLayout → Options → Gives
 host_load img arena mapper sub flags known sizes options =

@@ -8,8 +8,7 @@ ghost use Rattle.host.specs.Blocks.{found_word, host_lookup, host_find, host_loa
 ghost use Rattle.host.specs.Blocks.{host_write_blocks, host_write_places};
 ghost use Rattle.host.specs.Blocks.{host_stored, host_stored_places};
 
-use crate::load::sizes_of;
-use board_state::Options;
+use crate::load::{options_of, sizes_of};
 use call_blocks::calls::load;
 use call_load::Cartridge;
 use directory::block::Block;
@@ -77,17 +76,23 @@ pub fn namco163_load_blocks(
     chr_ram: u64,
     ciram: u64,
     f800_protects: u64,
+    signed_levels: u64,
+    plain_sum: u64,
 ) -> Result<(), Refusal>
     ensures value { refusal_of result ≡ (host_load_blocks image.old arena.old directory.old mapper submapper flags
-        in_database (sizes_of prg_rom prg_ram battery chr chr_ram ciram) (options_of f800_protects)).word }
+        in_database (sizes_of prg_rom prg_ram battery chr chr_ram ciram)
+        (options_of f800_protects signed_levels plain_sum)).word }
     ensures image_after { image.new ≡ (host_load_blocks image.old arena.old directory.old mapper
-        submapper flags in_database (sizes_of prg_rom prg_ram battery chr chr_ram ciram) (options_of f800_protects)).image }
+        submapper flags in_database (sizes_of prg_rom prg_ram battery chr chr_ram ciram)
+        (options_of f800_protects signed_levels plain_sum)).image }
     ensures arena_after { arena.new ≡ (host_load_blocks image.old arena.old directory.old mapper
-        submapper flags in_database (sizes_of prg_rom prg_ram battery chr chr_ram ciram) (options_of f800_protects)).lent }
+        submapper flags in_database (sizes_of prg_rom prg_ram battery chr chr_ram ciram)
+        (options_of f800_protects signed_levels plain_sum)).lent }
     ensures directory_after { directory.new ≡ host_load_places image.old arena.old directory.old mapper
-        (sizes_of prg_rom prg_ram battery chr chr_ram ciram) (options_of f800_protects) }
+        (sizes_of prg_rom prg_ram battery chr chr_ram ciram) (options_of f800_protects signed_levels plain_sum) }
 {
-    if !room_for(f800_protects != 0, image.len()) {
+    let options = options_of(f800_protects, signed_levels, plain_sum);
+    if !room_for(options.any(), image.len()) {
         return Err(Refusal::Image);
     }
     // Written out as in lib.rt: a function for it would have these eleven parameters.
@@ -97,9 +102,7 @@ pub fn namco163_load_blocks(
         flags,
         known: in_database != 0,
         sizes: sizes_of(prg_rom, prg_ram, battery, chr, chr_ram, ciram),
-        options: Options {
-            f800_protects: f800_protects != 0,
-        },
+        options,
     };
     let fresh = load(directory, arena, cartridge)?;
     put_image(image, fresh);

@@ -11,8 +11,7 @@ ghost use Rattle.board_state.specs.State.{no_options};
 ghost use Rattle.refusals.specs.Refusal.{refusal_of, word_of};
 ghost use Rattle.host.specs.Host.{sizes_of, options_of, host_load, host_reset, host_read, host_write, host_run};
 
-use crate::load::{load_image, sizes_of};
-use board_state::Options;
+use crate::load::{load_image, options_of, sizes_of};
 use call_load::Cartridge;
 use host_preview::preview_on;
 use host_state::{read_on, reset_on, run_on, write_on};
@@ -56,10 +55,12 @@ pub fn namco163_load(
         chr_ram,
         ciram,
         0,
+        0,
+        0,
     )
 }
 
-// The same with the options of L19, each 0 for no.
+// The same with the options of L19 and S13, each 0 for no.
 pub fn namco163_load_options(
     image: &mut [u8],
     arena: &mut [u8],
@@ -74,13 +75,15 @@ pub fn namco163_load_options(
     chr_ram: u64,
     ciram: u64,
     f800_protects: u64,
+    signed_levels: u64,
+    plain_sum: u64,
 ) -> Result<(), Refusal>
     ensures value { refusal_of result ≡ (host_load image.old arena.old mapper submapper flags in_database
-        (sizes_of prg_rom prg_ram battery chr chr_ram ciram) (options_of f800_protects)).word }
+        (sizes_of prg_rom prg_ram battery chr chr_ram ciram) (options_of f800_protects signed_levels plain_sum)).word }
     ensures image_after { image.new ≡ (host_load image.old arena.old mapper submapper flags in_database
-        (sizes_of prg_rom prg_ram battery chr chr_ram ciram) (options_of f800_protects)).image }
+        (sizes_of prg_rom prg_ram battery chr chr_ram ciram) (options_of f800_protects signed_levels plain_sum)).image }
     ensures arena_after { arena.new ≡ (host_load image.old arena.old mapper submapper flags in_database
-        (sizes_of prg_rom prg_ram battery chr chr_ram ciram) (options_of f800_protects)).lent }
+        (sizes_of prg_rom prg_ram battery chr chr_ram ciram) (options_of f800_protects signed_levels plain_sum)).lent }
 {
     let cartridge = Cartridge {
         mapper,
@@ -88,9 +91,7 @@ pub fn namco163_load_options(
         flags,
         known: in_database != 0,
         sizes: sizes_of(prg_rom, prg_ram, battery, chr, chr_ram, ciram),
-        options: Options {
-            f800_protects: f800_protects != 0,
-        },
+        options: options_of(f800_protects, signed_levels, plain_sum),
     };
     load_image(image, arena, cartridge)
 }

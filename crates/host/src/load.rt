@@ -3,8 +3,9 @@
 ghost use Rattle.std.specs.Prelude.{◌≡◌};
 ghost use Rattle.bits.specs.Fields.{bit};
 ghost use Rattle.refusals.specs.Refusal.{refusal_of};
-ghost use Rattle.host.specs.Host.{sizes_of, host_load};
+ghost use Rattle.host.specs.Host.{sizes_of, options_of, host_load};
 
+use board_state::Options;
 use call_load::{Cartridge, load};
 use image_write::writing::{put_image, room_for};
 use memory::layout::MemoryLayout;
@@ -30,6 +31,17 @@ pub fn sizes_of(
     }
 }
 
+// L19, S13: the options, each 0 for no (H5).
+pub fn options_of(f800_protects: u64, signed_levels: u64, plain_sum: u64) -> Options
+    ensures { result ≡ options_of f800_protects signed_levels plain_sum }
+{
+    Options {
+        f800_protects: f800_protects != 0,
+        signed_levels: signed_levels != 0,
+        plain_sum: plain_sum != 0,
+    }
+}
+
 pub fn load_image(image: &mut [u8], arena: &mut [u8], cartridge: Cartridge) -> Result<(), Refusal>
     ensures value { refusal_of result ≡ (host_load image.old arena.old cartridge.mapper cartridge.submapper cartridge.flags
         (bit cartridge.known) cartridge.sizes cartridge.options).word }
@@ -38,7 +50,7 @@ pub fn load_image(image: &mut [u8], arena: &mut [u8], cartridge: Cartridge) -> R
     ensures arena_after { arena.new ≡ (host_load image.old arena.old cartridge.mapper cartridge.submapper cartridge.flags
         (bit cartridge.known) cartridge.sizes cartridge.options).lent }
 {
-    if !room_for(cartridge.options.f800_protects, image.len()) {
+    if !room_for(cartridge.options.any(), image.len()) {
         return Err(Refusal::Image);
     }
     let fresh = load(arena, cartridge)?;

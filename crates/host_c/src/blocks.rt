@@ -50,15 +50,20 @@ pub extern "C" fn namco163_load_blocks(
     chr_ram: u64,
     ciram: u64,
     f800_protects: u64,
+    signed_levels: u64,
+    plain_sum: u64,
 ) -> u64
     ensures value { result ≡ (host_load_blocks image.old arena.old directory.old mapper submapper flags
-        in_database (sizes_of prg_rom prg_ram battery chr chr_ram ciram) (options_of f800_protects)).word }
+        in_database (sizes_of prg_rom prg_ram battery chr chr_ram ciram)
+        (options_of f800_protects signed_levels plain_sum)).word }
     ensures image_after { image.new ≡ (host_load_blocks image.old arena.old directory.old mapper
-        submapper flags in_database (sizes_of prg_rom prg_ram battery chr chr_ram ciram) (options_of f800_protects)).image }
+        submapper flags in_database (sizes_of prg_rom prg_ram battery chr chr_ram ciram)
+        (options_of f800_protects signed_levels plain_sum)).image }
     ensures arena_after { arena.new ≡ (host_load_blocks image.old arena.old directory.old mapper
-        submapper flags in_database (sizes_of prg_rom prg_ram battery chr chr_ram ciram) (options_of f800_protects)).lent }
+        submapper flags in_database (sizes_of prg_rom prg_ram battery chr chr_ram ciram)
+        (options_of f800_protects signed_levels plain_sum)).lent }
     ensures directory_after { directory.new ≡ host_load_places image.old arena.old directory.old mapper
-        (sizes_of prg_rom prg_ram battery chr chr_ram ciram) (options_of f800_protects) }
+        (sizes_of prg_rom prg_ram battery chr chr_ram ciram) (options_of f800_protects signed_levels plain_sum) }
 {
     u64::from(refusal_of(&host::blocks::namco163_load_blocks(
         image,
@@ -75,6 +80,8 @@ pub extern "C" fn namco163_load_blocks(
         chr_ram,
         ciram,
         f800_protects,
+        signed_levels,
+        plain_sum,
     )))
 }
 

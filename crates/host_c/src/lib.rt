@@ -63,13 +63,15 @@ pub extern "C" fn namco163_load_options(
     chr_ram: u64,
     ciram: u64,
     f800_protects: u64,
+    signed_levels: u64,
+    plain_sum: u64,
 ) -> u64
     ensures value { result ≡ (host_load image.old arena.old mapper submapper flags in_database
-        (sizes_of prg_rom prg_ram battery chr chr_ram ciram) (options_of f800_protects)).word }
+        (sizes_of prg_rom prg_ram battery chr chr_ram ciram) (options_of f800_protects signed_levels plain_sum)).word }
     ensures image_after { image.new ≡ (host_load image.old arena.old mapper submapper flags in_database
-        (sizes_of prg_rom prg_ram battery chr chr_ram ciram) (options_of f800_protects)).image }
+        (sizes_of prg_rom prg_ram battery chr chr_ram ciram) (options_of f800_protects signed_levels plain_sum)).image }
     ensures arena_after { arena.new ≡ (host_load image.old arena.old mapper submapper flags in_database
-        (sizes_of prg_rom prg_ram battery chr chr_ram ciram) (options_of f800_protects)).lent }
+        (sizes_of prg_rom prg_ram battery chr chr_ram ciram) (options_of f800_protects signed_levels plain_sum)).lent }
 {
     u64::from(refusal_of(&host::namco163_load_options(
         image,
@@ -85,6 +87,8 @@ pub extern "C" fn namco163_load_options(
         chr_ram,
         ciram,
         f800_protects,
+        signed_levels,
+        plain_sum,
     )))
 }
 

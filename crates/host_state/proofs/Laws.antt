@@ -12,8 +12,10 @@ use Rattle.memory.specs.Range.{Bytes}
 use Rattle.board_chip.specs.declared.namco163.Namco163.{Namco163}
 use Rattle.board_chip.specs.Namco163.{is163}
 use Rattle.board_chip.specs.Reads.{after_read}
+use Rattle.board_chip.specs.Reset.{reset_chip}
+use Rattle.board_state.specs.declared.Options.{Options}
 use Rattle.board_state.specs.declared.State.{State}
-use Rattle.board_state.specs.State.{Known, with_chip}
+use Rattle.board_state.specs.State.{any_option, options_in, Known, with_chip}
 use Rattle.call_answers.specs.Answers.{Altered}
 use Rattle.call_refusals.specs.Refusals.{Check, first_of, unless_refused, reset_checks, cpu_checks}
 use Rattle.call_refusals.proofs.Laws.{refused-is, accepted-is, number_is, cpu-good}
@@ -25,8 +27,9 @@ use Rattle.image_write.specs.Options.{image_at, option_set, room_for}
 use Rattle.thm_machine.specs.Calls.{cpu_write as call_write}
 use Rattle.thm_machine.specs.Board.{other_gives}
 use Rattle.thm_steps.proofs.Chip.{Keeps, after-read-keeps, reset-keeps}
+use Rattle.thm_steps.proofs.Choice.{read-choice, write-choice}
 use Rattle.thm_range.proofs.Calls.{other_fits}
-use Rattle.thm_range.proofs.Options.{clocks-keep-options}
+use Rattle.thm_range.proofs.Options.{options-same, clocks-keep-options}
 use Rattle.host_state.specs.HostState.{Gives, unaltered, reset_gives, read_gives, write_gives, short_run, short_samples}
 
 -- ---- a call on a state, by the number q that it answered: refused, or it left g, which is what the definition gives
@@ -149,29 +152,35 @@ known-write s arena addr v r e b bytes z k =
 
 -- ---- and the bytes that held the state before hold it after
 
-room-same : (s t : State) (n : ℕ) → option_set t ≡ option_set s → room_for (option_set s) n ≡ true → room_for (option_set t) n ≡ true
-room-same s t n e r = subst (λ (x : Bool). room_for x n ≡ true) (sym e) r
+room-same : (s t : State) (n : ℕ) → options_in t ≡ options_in s → room_for (option_set s) n ≡ true → room_for (option_set t) n ≡ true
+room-same s t n e r = subst (λ (o : Options). room_for (any_option o) n ≡ true) (sym e) r
 
 pub room-reset : (s : State) (kind : ℕ) (r : Altered) (n : ℕ) → r ≡ reset_state s kind → room_for (option_set s) n ≡ true
     → room_for (option_set r.state) n ≡ true
-unfolding reset_state
+unfolding reset_state reset_chip
 room-reset s kind r n e =
-    let P : Altered → Type 0 = λ x. option_set x.state ≡ option_set s in
+    let P : Altered → Type 0 = λ x. options_in x.state ≡ options_in s in
     room-same s r.state n (subst P (sym e) (cond-holds P (eqb (first_of (reset_checks s kind)) 0) _ _ refl refl))
 
 pub room-read : (s : State) (arena : List ℕ) (addr : ℕ) (r : ReadAnswer) (n : ℕ) → r ≡ cpu_read s arena addr → room_for (option_set s) n ≡ true
     → room_for (option_set r.state) n ≡ true
 unfolding cpu_read
 room-read s arena addr r n e =
-    let P : ReadAnswer → Type 0 = λ x. option_set x.state ≡ option_set s in
-    room-same s r.state n (subst P (sym e) (cond-holds P (eqb (first_of (cpu_checks s (length arena) addr)) 0) _ _ refl refl))
+    let P : ReadAnswer → Type 0 = λ x. options_in x.state ≡ options_in s in
+    room-same s r.state n
+    (subst P (sym e)
+    (cond-holds P (eqb (first_of (cpu_checks s (length arena) addr)) 0) _ _
+    (options-same s (with_chip s (after_read s.chip addr)) refl (read-choice s.chip addr)) refl))
 
 pub room-write : (s : State) (arena : List ℕ) (addr v : ℕ) (r : WriteAnswer) (n : ℕ) → r ≡ cpu_write s arena addr v
     → room_for (option_set s) n ≡ true → room_for (option_set r.state) n ≡ true
 unfolding cpu_write write_register
 room-write s arena addr v r n e =
-    let P : WriteAnswer → Type 0 = λ x. option_set x.state ≡ option_set s in
-    room-same s r.state n (subst P (sym e) (cond-holds P (eqb (first_of (cpu_checks s (length arena) addr)) 0) _ _ refl refl))
+    let P : WriteAnswer → Type 0 = λ x. options_in x.state ≡ options_in s in
+    room-same s r.state n
+    (subst P (sym e)
+    (cond-holds P (eqb (first_of (cpu_checks s (length arena) addr)) 0) _ _
+    (options-same s (write_register s addr v) refl (write-choice s.chip addr v)) refl))
 
 pub room-clocks : (s : State) (k n : ℕ) → room_for (option_set s) n ≡ true → room_for (option_set (clocks k s).state) n ≡ true
 room-clocks s k n = room-same s (clocks k s).state n (clocks-keep-options k s)

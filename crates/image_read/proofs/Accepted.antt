@@ -1,6 +1,6 @@
 -- Which images are accepted, by their length, their options, their board's words and the bits of `out`, and the state that they hold.
-use mathlib.Core.Path.{◌≡◌, refl, ap, ap₂, ◌∙◌, subst}
-use mathlib.Core.Bool.{Bool, true, false, cond, ◌&&◌, and-false}
+use mathlib.Core.Path.{◌≡◌, refl, sym, ap, ap₂, ◌∙◌, subst}
+use mathlib.Core.Bool.{Bool, true, false, cond, ◌&&◌, and-false, true≢false}
 use mathlib.Core.List.{List}
 use Prim.Native.Nat.{ℕ, ◌-◌, ◌/◌, ◌%◌, ◌^◌, ◌≤◌, ◌<◌}
 use native.Mathlib.Omega.{arith}
@@ -9,8 +9,8 @@ use lib.Dec.{eqb, leb}
 use lib.ListN.{length, take, drop, get_or}
 use Rattle.bits.specs.Fields.{total, unpack}
 use Rattle.bits.specs.Words.{word_of}
-use Rattle.limits.specs.Limits.{out_most}
 use Rattle.memory.specs.Range.{Bytes}
+use Rattle.board_state.specs.declared.Options.{Options}
 use Rattle.board_state.specs.declared.State.{State}
 use Rattle.board_state.specs.State.{in_range, Known}
 use Rattle.call_refusals.specs.Refusals.{first_of}
@@ -18,12 +18,12 @@ use Rattle.image_write.specs.Image.{image_bytes, part, part_widths, joined, chip
 use Rattle.image_write.specs.Options.{room_for}
 use Rattle.image_write.specs.Sections.{chip_at, ram_at, out_at, phases_at}
 use Rattle.image_read.specs.declared.head.Head.{Head}
-use Rattle.image_read.specs.Reading.{cut_into, state_from, state_of, fields_ok, fields_of, options_of, body_in, byte_in, state_in}
+use Rattle.image_read.specs.Reading.{cut_into, options_from, state_from, state_of, fields_ok, fields_of, options_of, body_in, byte_in, state_in}
 use Rattle.image_read.specs.Reading.{image_ok, refused_read, read_image, read_body}
 use Rattle.image_read.specs.Sections.{fields_at, head_parts, sound_at, memory_at, state_at}
 use Rattle.image_read.proofs.Fields.{out-at}
 use Rattle.image_read.proofs.Known.{image-known}
-use Rattle.image_read.proofs.Out.{out-most}
+use Rattle.image_read.proofs.Out.{out_bits, out-bits}
 use Rattle.image_read.proofs.Sections.{image-parts}
 
 -- ---- the answers by the length
@@ -51,45 +51,43 @@ module _ (img : List ℕ) where
       go true e = accepted l e ∙ rw e
       go false e = refused-fields l e ∙ rw e
 
--- ---- the state of an image's body
-
--- a body of `image_bytes` bytes, its board's words and the bits of its `out`
-pub record Opened (body : List ℕ) (h : Head) (bits : ℕ) : Type 0 where
-  pub long : length body ≡ image_bytes
-  pub bytes : Bytes body
-  pub head : fields_at (joined chip_widths) body chip_at (ram_at - chip_at) ≡ joined (head_parts h)
-  pub out : bits ≡ word_of (take (phases_at - out_at) (drop out_at body))
-  pub small : bits < 2 ^ 32
-
 -- ---- the options of their byte
 
-pub unused-is : (byte : ℕ) → get_or (options_of byte) 1 0 ≡ byte % 128
+unused-is : (byte : ℕ) → get_or (options_of byte) 3 0 ≡ byte % 32
 unfolding unpack total
 unused-is byte = omega arith
 
-pub protects-is : (byte : ℕ) → byte < 256 → get_or (options_of byte) 0 0 ≡ byte / 128
-unfolding unpack total
-protects-is byte h = omega arith
-
-pub refused-unused : (body : List ℕ) (byte : ℕ) → (byte % 128 ≡ 0 → ⊥) → read_body body byte ≡ refused_read 2
+pub refused-unused : (body : List ℕ) (byte : ℕ) → (byte % 32 ≡ 0 → ⊥) → read_body body byte ≡ refused_read 2
 unfolding read_body fields_ok
 refused-unused body byte n =
-    rw (unused-is byte, ne_eqb (byte % 128) 0 n, and-false (leb (get_or (part (cut_into part_widths (fields_of body)) 1) 1 0) 4))
+    rw (unused-is byte, ne_eqb (byte % 32) 0 n, and-false (leb (get_or (part (cut_into part_widths (fields_of body)) 1) 1 0) 4))
 
-module _ (body : List ℕ) (byte : ℕ) (fits : byte < 256) (unused : byte % 128 ≡ 0) (h : Head) (bits : ℕ) (o : Opened body h bits) where
+-- ---- the state of an image's body
+
+-- a body of `image_bytes` bytes with a byte of options that has no unused bit, its board's words, the bits of its `out`, and its options
+pub record Opened (body : List ℕ) (byte : ℕ) (h : Head) (bits : ℕ) (chosen : Options) : Type 0 where
+  pub long : length body ≡ image_bytes
+  pub bytes : Bytes body
+  pub unused : byte % 32 ≡ 0
+  pub head : fields_at (joined chip_widths) body chip_at (ram_at - chip_at) ≡ joined (head_parts h)
+  pub out : bits ≡ word_of (take (phases_at - out_at) (drop out_at body))
+  pub small : bits < 2 ^ 32
+  pub options : chosen ≡ options_from (options_of byte)
+
+module _ (body : List ℕ) (byte : ℕ) (h : Head) (bits : ℕ) (chosen : Options) (o : Opened body byte h bits chosen) where
   abbrev held : State
-  held = state_at body h bits (eqb (byte / 128) 1)
+  held = state_at body h bits chosen
 
   pub state-is : state_of (fields_of body) (options_of byte) ≡ held
   unfolding state_of state_from sound_at memory_at
-  state-is = rw (image-parts body o.long o.bytes h o.head, out-at body bits o.out o.small, protects-is byte fits)
+  state-is = rw (image-parts body o.long o.bytes h o.head, out-at body bits o.out o.small, o.options)
 
   ok-is : fields_ok (fields_of body) (options_of byte) ≡ leb (h.detection / 2 % 8) 4 && in_range held
   unfolding fields_ok unpack total
   ok-is =
-      ap₂ (λ (p : List (List ℕ)) (s : State). leb (get_or (part p 1) 1 0) 4 && (eqb (get_or (options_of byte) 1 0) 0 && in_range s))
+      ap₂ (λ (p : List (List ℕ)) (s : State). leb (get_or (part p 1) 1 0) 4 && (eqb (get_or (options_of byte) 3 0) 0 && in_range s))
       (image-parts body o.long o.bytes h o.head) state-is
-      ∙ rw (unused-is byte, eq-eqb (byte % 128) 0 unused)
+      ∙ rw (unused-is byte, eq-eqb (byte % 32) 0 o.unused)
 
   refused : fields_ok (fields_of body) (options_of byte) ≡ false → read_body body byte ≡ refused_read 2
   unfolding read_body
@@ -105,12 +103,14 @@ module _ (body : List ℕ) (byte : ℕ) (fits : byte < 256) (unused : byte % 128
   held-known : in_range held ≡ true → Known held
   held-known e = subst Known state-is (image-known body (options_of byte) (ap in_range state-is ∙ e))
 
-  pub refused-out : out_most < bits → read_body body byte ≡ refused_read 2
+  pub refused-out : out_bits chosen.signed_levels chosen.plain_sum bits ≡ false → read_body body byte ≡ refused_read 2
   unfolding sound_at
   refused-out l = refused-range (go (in_range held) refl)
     where
       go : (t : Bool) → in_range held ≡ t → in_range held ≡ false
-      go true e = absurd (let m = out-most bits o.small (held-known e).range.chip.audio.mixed in omega arith)
+      go true e =
+          let mixed = (held-known e).range.chip.audio.mixed in
+          absurd (true≢false (sym (out-bits chosen.signed_levels chosen.plain_sum bits o.small mixed) ∙ l))
       go false e = e
 
   pub accepted-state : h.detection / 2 % 8 ≤ 4 → in_range held ≡ true → read_body body byte ≡ record { refusal = 0; state = held }

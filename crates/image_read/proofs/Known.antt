@@ -8,27 +8,25 @@ use lib.Dec.{T}
 use lib.Ieee.{nan, binary32, fits}
 use lib.Ieee.Bits.{of_bits-fits}
 use lib.Ieee.Fits.{of_int-fits}
-use lib.IntN.{pos}
 use lib.ListN.{length, get_or, length-map}
 use Rattle.bits.specs.Fields.{Fit, times}
 use Rattle.bits.specs.Words.{word_of}
 use Rattle.bits.proofs.Fields.{fit_length, fit-below, fit-unpack}
 use Rattle.limits.specs.Limits.{prg_entries, chr_entries}
 use Rattle.memory.specs.Page.{unmapped, page_of}
-use Rattle.sound.specs.Levels.{whole}
 use Rattle.board_state.specs.State.{in_range, Typed, Known}
 use Rattle.board_state.proofs.Range.{state-in}
 use Rattle.image_write.specs.Image.{part, part_widths, page_widths, widths}
-use Rattle.image_read.specs.Reading.{is_set, pages_of, cut_into, state_from, state_of, fields_of}
+use Rattle.image_read.specs.Reading.{is_set, pages_of, cut_into, level_from, output_from, options_from, state_from, state_of, fields_of}
 use Rattle.image_read.proofs.Parts.{fit_cut, fit-get}
 
 -- ---- arrays
 
-wholes-fit : (p : List ℕ) (i : ℕ) → T (fits binary32 (get_or (map whole p) i nan))
+outputs-fit : (signed : Bool) (p : List ℕ) (i : ℕ) → T (fits binary32 (get_or (map (output_from signed) p) i nan))
 unfolding fits
-wholes-fit [] i = tt
-wholes-fit (v ∷ p) zero = of_int-fits binary32 (pos v)
-wholes-fit (v ∷ p) (suc i) = wholes-fit p i
+outputs-fit signed [] i = tt
+outputs-fit signed (v ∷ p) zero = of_int-fits binary32 (level_from signed v)
+outputs-fit signed (v ∷ p) (suc i) = outputs-fit signed p i
 
 pages-long : (n : ℕ) (vs : List ℕ) → Fit (times n page_widths) vs → length (pages_of vs) ≡ n
 unfolding pages_of times
@@ -56,6 +54,7 @@ unfolding state_of state_from cut_into widths
 fields-typed vs options f =
     let ps = cut_into part_widths vs in
     let fp = fit_cut part_widths vs f in
+    let signed = (options_from options).signed_levels in
     let p0 = part ps 0 in let w0 = part part_widths 0 in let f0 = fp.0 in
     let f2-on = fp.1.1 in let f5-on = f2-on.1.1.1 in let f7-on = f5-on.1.1 in let f10-on = f7-on.1.1.1 in
     record {
@@ -73,8 +72,9 @@ fields-typed vs options f =
                 record {
                   ram_length = sym (fit_length (part part_widths 5) (part ps 5) f5-on.0);
                   bytes = fit-below 128 8 (part ps 5) f5-on.0;
-                  outputs_length = length-map (part ps 7) whole ∙ sym (fit_length (part part_widths 7) (part ps 7) f7-on.0);
-                  outputs_fit = wholes-fit (part ps 7);
+                  outputs_length =
+                      length-map (part ps 7) (output_from signed) ∙ sym (fit_length (part part_widths 7) (part ps 7) f7-on.0);
+                  outputs_fit = outputs-fit signed (part ps 7);
                   phases_length = sym (fit_length (part part_widths 9) (part ps 9) f7-on.1.1.0);
                   out_fits = of_bits-fits binary32 (get_or (part ps 8) 0 0);
                 };

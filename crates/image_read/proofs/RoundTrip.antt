@@ -1,21 +1,20 @@
 -- The image's promises: H3, both ways at the image's own length (H10), and an image is accepted exactly where it has one of the two lengths
 -- (N1) and its fields are in range (N2).
 use mathlib.Core.Path.{◌≡◌, refl, sym, ap, ap₂, ◌∙◌, subst}
-use mathlib.Core.Bool.{Bool, true, false, ◌&&◌}
+use mathlib.Core.Bool.{Bool, true, false, ◌&&◌, ◌||◌, true≢false}
 use mathlib.Core.List.{List, [], ◌∷◌, ◌++◌}
-use Prim.Native.Nat.{ℕ, zero, suc, ◌+◌, ◌*◌, ◌/◌, ◌%◌, ◌≤◌, ◌<◌}
+use Prim.Native.Nat.{ℕ, zero, suc, ◌+◌, ◌≤◌, ◌<◌}
 use native.Mathlib.Omega.{arith}
-use native.Mathlib.Decide.{ℕ_discrete}
-use borrow.Author.Tests.{not-false, eqb-true, eq-eqb, ne_eqb, leb-true, le-leb}
+use borrow.Author.Tests.{not-false, eqb-true, leb-true, le-leb}
 use lib.Dec.{eqb, leb}
 use lib.ListN.{length, take, get_or, length-append, get_or-eq_default}
 use lib.Seq.{take_at, take-length, length-take-le, get_or-append_seam}
 use Rattle.bits.specs.Fields.{total, pack, unpack, Fit, bit}
 use Rattle.bits.specs.Words.{word_of, bytes_of}
-use Rattle.bits.proofs.Fields.{fit-unpack, unpack-pack, bit-lt}
+use Rattle.bits.proofs.Fields.{fit-unpack, unpack-pack, pack-unpack, bit-lt}
 use Rattle.bits.proofs.RoundTrip.{fields_back, bytes_back}
 use Rattle.board_state.specs.declared.State.{State}
-use Rattle.board_state.specs.State.{in_range, Known}
+use Rattle.board_state.specs.State.{any_option, options_in, in_range, Known}
 use Rattle.board_state.proofs.Range.{known-passes}
 use Rattle.memory.specs.Range.{Bytes}
 use Rattle.limits.proofs.Every.{and_left, and_right}
@@ -24,17 +23,17 @@ use Rattle.call_refusals.proofs.Laws.{accepted-none, number_is}
 use Rattle.image_write.specs.Image.{image_bytes, part, part_widths, part_fields, widths, fields, image_of}
 use Rattle.image_write.specs.Options.{options_image_bytes, option_widths, option_fields, options_byte, image_at, option_set, room_for}
 use Rattle.image_write.specs.Options.{Room, short, long}
+use Rattle.image_write.proofs.Parts.{◌then◌}
 use Rattle.image_write.proofs.Whole.{total-widths}
 use Rattle.image_write.proofs.writing.Laws.{room, short-room, long-room, room-none, length-image, image-short, image-long}
-use Rattle.image_write.proofs.writing.Laws.{byte-is}
 use Rattle.image_read.specs.Reading.{ReadImage}
-use Rattle.image_read.specs.Reading.{is_set, cut_into, state_from, state_of, fields_ok, fields_of, options_of, body_in, byte_in, state_in}
+use Rattle.image_read.specs.Reading.{cut_into, options_from, state_from, state_of, fields_ok, fields_of, options_of, body_in, byte_in, state_in}
 use Rattle.image_read.specs.Reading.{image_ok, read_checks, refused_read, read_image, read_body}
-use Rattle.image_read.proofs.Accepted.{accepted, read_is, unused-is, protects-is}
+use Rattle.image_read.proofs.Accepted.{accepted, read_is}
 use Rattle.image_read.proofs.Known.{image-known}
 use Rattle.image_read.proofs.Parts.{fit-joined, same-lengths}
 use Rattle.image_read.proofs.Sections.{cut-joined}
-use Rattle.image_read.proofs.States.{state-back, state-fits, fields-num}
+use Rattle.image_read.proofs.States.{options-back, state-back, state-fits, options-num, fields-num}
 use Rattle.image_read.proofs.Values.{mirroring-most}
 
 -- ---- what is accepted
@@ -56,7 +55,7 @@ in-range-accepted img l e = ap (λ r. r.refusal) (accepted img l e)
 -- what the fields' test says: the mirroring, the unused bits, the state
 pub record FieldsPass (body : List ℕ) (options : List ℕ) : Type 0 where
   pub mirroring : get_or (part (cut_into part_widths (fields_of body)) 1) 1 0 ≤ 4
-  pub unused : get_or options 1 0 ≡ 0
+  pub unused : get_or options 3 0 ≡ 0
   pub range : in_range (state_of (fields_of body) options) ≡ true
 
 pub fields-pass : (body options : List ℕ) → fields_ok (fields_of body) options ≡ true → FieldsPass body options
@@ -66,8 +65,8 @@ fields-pass body options e =
     let r = and_right m _ e in
     record {
       mirroring = leb-true _ 4 (and_left m _ e);
-      unused = eqb-true (get_or options 1 0) 0 (and_left (eqb (get_or options 1 0) 0) _ r);
-      range = and_right (eqb (get_or options 1 0) 0) _ r;
+      unused = eqb-true (get_or options 3 0) 0 (and_left (eqb (get_or options 3 0) 0) _ r);
+      range = and_right (eqb (get_or options 3 0) 0) _ r;
     }
 
 -- the state of an accepted image is known: its fields fit their widths, and it is in range
@@ -79,6 +78,17 @@ read_known img e =
     (image-known (body_in img) options (fields-pass (body_in img) options h.1).range)
 
 -- ---- a state, its image at either length, and that state again
+
+-- without an option the byte is 0
+no-option : (s : State) → option_set s ≡ false → options_byte s ≡ 0
+unfolding options_byte pack total
+no-option s e = let o = options_in s in go o.f800_protects o.signed_levels o.plain_sum e
+  where
+    go : (a b c : Bool) → a || (b || c) ≡ false → pack option_widths (bit a ∷ bit b ∷ bit c ∷ 0 ∷ []) ≡ 0
+    go true b c e = absurd (true≢false e)
+    go false true c e = absurd (true≢false e)
+    go false false true e = absurd (true≢false e)
+    go false false false e = refl
 
 module _ (s : State) (k : Known s) where
   fits : Fit widths (fields s)
@@ -93,18 +103,21 @@ module _ (s : State) (k : Known s) where
   unfolding fields
   cut = cut-joined part_widths (part_fields s) (same-lengths part_widths (part_fields s) (state-fits s k))
 
-  options-are : options_of (options_byte s) ≡ option_fields s
+  options-are : options_of (options_byte s) ≡ option_fields (options_in s)
   unfolding options_byte
-  options-are = unpack-pack option_widths (option_fields s) (bit-lt s.f800_protects, (omega arith, tt))
+  options-are =
+      let o = options_in s in
+      unpack-pack option_widths (option_fields o)
+      (bit-lt o.f800_protects then bit-lt o.signed_levels then bit-lt o.plain_sum then omega arith then tt)
 
   state : state_of (fields_of (image_of s)) (options_of (options_byte s)) ≡ s
   unfolding state_of
-  state = ap₂ state_of fields-are options-are ∙ rw cut (state-back s k)
+  state = ap₂ state_of fields-are options-are ∙ rw (cut, options-back (options_in s)) (state-back s k)
 
   ok : fields_ok (fields_of (image_of s)) (options_of (options_byte s)) ≡ true
   unfolding fields_ok
   ok =
-      ap₂ (λ (p : List (List ℕ)) (x : State). leb (get_or (part p 1) 1 0) 4 && (eqb (get_or (options_of (options_byte s)) 1 0) 0 && in_range x))
+      ap₂ (λ (p : List (List ℕ)) (x : State). leb (get_or (part p 1) 1 0) 4 && (eqb (get_or (options_of (options_byte s)) 3 0) 0 && in_range x))
       (ap (cut_into part_widths) fields-are ∙ cut) state
       ∙ rw (le-leb _ 4 (mirroring-most s.chip.mirroring), options-are, known-passes s k)
 
@@ -128,7 +141,7 @@ module _ (s : State) (k : Known s) where
             body = ap (take image_bytes) i ∙ ap (λ (m : ℕ). take m (image_of s)) (sym l) ∙ take-length (image_of s);
             byte = ap (λ (x : List ℕ). get_or x image_bytes 0) i
                 ∙ get_or-eq_default (image_of s) 0 {n = image_bytes} (omega (arith, l))
-                ∙ sym (byte-is s ∙ rw f);
+                ∙ sym (no-option s f);
           }
       by (long e) =
           let i = image-long s n e in
@@ -163,15 +176,12 @@ body-again body options b l p =
     (fields-num vs options (fit-unpack widths (word_of body)) (image-known body options p.range) p.mirroring)
     ∙ bytes_back widths image_bytes total-widths body l b
 
--- a byte without unused bits is that of its option
-byte-again : (byte : ℕ) → byte < 256 → get_or (options_of byte) 1 0 ≡ 0 → bit (is_set (get_or (options_of byte) 0 0)) * 128 ≡ byte
+-- a byte without unused bits is that of its options
+byte-again : (byte : ℕ) → byte < 256 → get_or (options_of byte) 3 0 ≡ 0
+    → pack option_widths (option_fields (options_from (options_of byte))) ≡ byte
+unfolding total
 byte-again byte h u =
-    let z : byte % 128 ≡ 0 = sym (unused-is byte) ∙ u in
-    rw (protects-is byte h) (go (ℕ_discrete (byte / 128) 1) z)
-  where
-    go : Dec (byte / 128 ≡ 1) → byte % 128 ≡ 0 → bit (is_set (byte / 128)) * 128 ≡ byte
-    go (yes e) z = rw (eq-eqb (byte / 128) 1 e) (omega arith)
-    go (no n) z = rw (ne_eqb (byte / 128) 1 n) (omega (arith, n))
+    ap (pack option_widths) (options-num (options_of byte) (fit-unpack option_widths byte) u) ∙ pack-unpack option_widths byte h
 
 take-bytes : (n : ℕ) (xs : List ℕ) → Bytes xs → Bytes (take n xs)
 take-bytes zero xs b i = b-none i
@@ -193,7 +203,7 @@ body-and-byte (x ∷ y ∷ xs) (suc n) e = ap (λ (l : List ℕ). x ∷ l) (body
 -- a byte of 0 sets no option
 pub optionless : (img : List ℕ) → byte_in img ≡ 0 → option_set (state_in img) ≡ false
 unfolding state_of state_from unpack total
-optionless img z = ap (λ (b : ℕ). is_set (get_or (options_of b) 0 0)) z
+optionless img z = ap (λ (b : ℕ). any_option (options_from (options_of b))) z
 
 -- an image's bytes hold its state
 pub roomy-in : (img : List ℕ) → room_for false (length img) ≡ true → room_for (option_set (state_in img)) (length img) ≡ true
@@ -212,7 +222,7 @@ module _ (img : List ℕ) (b : Bytes img) where
     pub same : image_at (length img) s ≡ img
 
   again : room_for false (length img) ≡ true → image_ok img ≡ true → Again (state_in img)
-  unfolding state_of state_from
+  unfolding state_of state_from options_byte
   again r e = by (room false (length img) r)
     where
       p : FieldsPass (body_in img) (options_of (byte_in img))
@@ -222,7 +232,7 @@ module _ (img : List ℕ) (b : Bytes img) where
       front l = body-again (body_in img) (options_of (byte_in img)) (take-bytes image_bytes img b) l p
 
       last : options_byte (state_in img) ≡ byte_in img
-      last = byte-is (state_in img) ∙ byte-again (byte_in img) (b image_bytes) p.unused
+      last = byte-again (byte_in img) (b image_bytes) p.unused
 
       by : Room false (length img) → Again (state_in img)
       by (short l f) =

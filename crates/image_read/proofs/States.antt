@@ -1,13 +1,13 @@
 -- Both ways between a state and its fields.
 use mathlib.Core.Path.{◌≡◌, refl, sym, ◌∙◌, subst}
-use mathlib.Core.Bool.{false}
+use mathlib.Core.Bool.{Bool, false}
 use mathlib.Core.List.{List, [], ◌∷◌, map}
 use mathlib.Core.Logic.{inl, inr}
 use Prim.Native.Nat.{ℕ, zero, suc, ◌*◌, ◌^◌, ◌≤◌, ◌<◌}
 use native.Mathlib.Omega.{arith}
 use lib.Dec.{eqb}
 use lib.Ieee.{nan, binary32}
-use lib.Ieee.Bits.{of_bits-to_bits}
+use lib.Ieee.Bits.{of_bits-to_bits, to_bits-lt}
 use lib.ListN.{length, get_or, replicate, length-map}
 use Rattle.bits.specs.Fields.{Fit, bit, times, each}
 use Rattle.bits.proofs.Fields.{fit_length, fit-below, bit-lt}
@@ -19,21 +19,21 @@ use Rattle.memory.specs.Page.{writable_of}
 use Rattle.board_chip.specs.declared.namco163.Board.{Board}
 use Rattle.board_chip.specs.declared.namco163.Board.TheVariants.{Unknown, Namco163, Namco175, Namco340}
 use Rattle.board_chip.specs.Namco163.{board_num}
-use Rattle.sound.specs.Levels.{whole}
+use Rattle.board_state.specs.declared.Options.{Options}
 use Rattle.board_state.specs.declared.State.{State}
 use Rattle.sound.specs.Range.{Level, Levels}
-use Rattle.board_state.specs.State.{Known}
+use Rattle.board_state.specs.State.{options_in, Known}
 use Rattle.limits.specs.Limits.{used_most, prg_entries, chr_entries}
 use Rattle.memory.specs.declared.layout.Layout.{Layout}
 use Rattle.memory.specs.Range.{UsedIn}
 use Rattle.image_write.specs.Image.{part, joined, part_widths, part_fields, level_num, page_widths, page_fields, layout_widths}
 use Rattle.image_write.specs.Image.{widths, fields}
-use Rattle.image_write.specs.Options.{option_fields}
+use Rattle.image_write.specs.Options.{option_widths, option_fields}
 use Rattle.image_write.specs.Pages.{PagesFit}
-use Rattle.image_write.proofs.Levels.{level-small}
+use Rattle.image_write.proofs.Levels.{level-fits}
 use Rattle.image_write.proofs.Parts.{◌then◌, fit-replicate}
 use Rattle.image_write.proofs.pages.Laws.{prg-fit, chr-fit}
-use Rattle.image_read.specs.Reading.{is_set, cut_into, state_from, state_of}
+use Rattle.image_read.specs.Reading.{is_set, cut_into, output_from, options_from, state_from, state_of}
 use Rattle.image_read.proofs.Out.{out-back}
 use Rattle.image_read.proofs.Parts.{FitParts, fit_cut, joined-cut, fit-get}
 use Rattle.image_read.proofs.Values.{bit-back, is-set-back, board-back, board-num, mirroring-back, mirroring-most, mirroring-num}
@@ -45,8 +45,11 @@ used-back u l (inr h) = rw h.0
 
 -- ---- a state in range comes back from its fields
 
+pub options-back : (o : Options) → options_from (option_fields o) ≡ o
+options-back o = simp bit-back
+
 module _ (s : State) (k : Known s) where
-  pub state-back : state_from (part_fields s) (option_fields s) ≡ s
+  pub state-back : state_from (part_fields s) (options_in s) ≡ s
   unfolding state_from
   state-back =
       let n = s.chip in
@@ -56,8 +59,9 @@ module _ (s : State) (k : Known s) where
       let r = k.range.memory in
       let lo = t.chip.audio.outputs_length in
       let flags = map_back bit is_set false n.nt_bank_enable (λ i l. bit-back (get_or n.nt_bank_enable i false)) in
-      let outs = map_back level_num whole nan a.channel_out
-      (λ i l. level-back (get_or a.channel_out i nan) (k.range.chip.audio.outputs i (omega (arith, lo)))) in
+      let signed = a.signed_levels in
+      let outs = map_back level_num (output_from signed) nan a.channel_out
+      (λ i l. level-back signed (get_or a.channel_out i nan) (k.range.chip.audio.outputs i (omega (arith, lo)))) in
       let out = of_bits-to_bits binary32 a.out t.chip.audio.out_fits in
       let prg = pages-back (arena_pages m.layout) m.prg_pages t.memory.prg_words
       (λ i l. r.ranged.prg i (omega (arith, t.memory.prg))) in
@@ -105,7 +109,7 @@ module _ (s : State) (k : Known s) where
       let prg = fit-replicate 3 6 n.prg_banks c.prg (λ i h. omega (arith, k.range.chip.banks i)) in
       let ram = fit-replicate 128 8 a.ram y.ram_length (λ i h. y.bytes i) in
       let levels = fit-map level_num nan 8 12 outs y.outputs_length
-      (λ i h. omega (arith, level-small (get_or outs i nan) (g.outputs i h))) in
+      (λ i h. (level-fits a.signed_levels (get_or outs i nan) (g.outputs i h)).field) in
       let phases = fit-replicate 8 24 a.phase_ext y.phases_length (λ i h. g.phases i) in
       let prgs = fit-pages prg_entries m.prg_pages k.typed.memory.prg (prg-fit m r) in
       let chrs = fit-pages chr_entries m.chr_pages k.typed.memory.chr (chr-fit m r) in
@@ -116,7 +120,7 @@ module _ (s : State) (k : Known s) where
       then flags then chr then prg then ram
       then (omega (arith, g.address) then bit-lt a.auto_increment then bit-lt a.disabled then omega (arith, g.counter)
       then omega (arith, g.channel) then tt)
-      then levels then (omega (arith, g.mixed.bits) then tt) then phases then prgs then chrs
+      then levels then (to_bits-lt binary32 a.out y.out_fits then tt) then phases then prgs then chrs
       then (omega (arith, l.prg_rom) then omega (arith, l.prg_ram) then omega (arith, l.battery) then omega (arith, l.chr)
       then bit-lt m.layout.chr_writable then omega (arith, l.ciram) then bit-lt (eqb m.battery_ext_len used_most) then tt)
       then tt
@@ -132,6 +136,16 @@ used-num zero h = refl
 used-num (suc zero) h = refl
 used-num (suc (suc v)) h = absurd (let z : ⊥ = omega arith in z)
 
+-- H9, H11: so do the options, where the bits that mean nothing are clear
+pub options-num : (fs : List ℕ) → Fit option_widths fs → get_or fs 3 0 ≡ 0 → option_fields (options_from fs) ≡ fs
+options-num fs f unused =
+    let last = rw unused at (listed-is 0 4 fs (sym (fit_length option_widths fs f))) in
+    rw (
+      is-set-at option_widths fs f 0 (omega arith) refl,
+      is-set-at option_widths fs f 1 (omega arith) refl,
+      is-set-at option_widths fs f 2 (omega arith) refl,
+    ) last
+
 module _ (vs options : List ℕ) (f : Fit widths vs) (k : Known (state_of vs options))
     (mirroring : get_or (part (cut_into part_widths vs) 1) 1 0 ≤ 4) where
   pub fields-num : fields (state_of vs options) ≡ vs
@@ -139,7 +153,9 @@ module _ (vs options : List ℕ) (f : Fit widths vs) (k : Known (state_of vs opt
   fields-num =
       let ps = cut_into part_widths vs in
       let fp = fit_cut part_widths vs f in
-      let s = state_from ps options in
+      let o = options_from options in
+      let s = state_from ps o in
+      let signed = o.signed_levels in
       let g = k.range.chip.audio in
       let p0 = part ps 0 in let w0 = part part_widths 0 in let f0 = fp.0 in
       let regs : part (part_fields s) 0 ≡ p0 =
@@ -164,12 +180,13 @@ module _ (vs options : List ℕ) (f : Fit widths vs) (k : Known (state_of vs opt
       rw (is-set-at w6 p6 f6 1 (omega arith) refl, is-set-at w6 p6 f6 2 (omega arith) refl)
       (listed-is 0 5 p6 (sym (fit_length w6 p6 f6))) in
       let p7 = part ps 7 in let f7 = f6-on.1.0 in
-      let levels = map_back whole level_num 0 p7
-      (λ i h. level-num (get_or p7 i 0) (fit-below 8 12 p7 f7 i)
-      (level-of p7 g.outputs i (omega (arith, fit_length (part part_widths 7) p7 f7)) h)) in
+      let levels = map_back (output_from signed) level_num 0 p7
+      (λ i h. level-num signed (get_or p7 i 0) (fit-below 8 12 p7 f7 i)
+      (level-of signed p7 g.outputs i (omega (arith, fit_length (part part_widths 7) p7 f7)) h)) in
       let p8 = part ps 8 in let w8 = part part_widths 8 in let f8 = f6-on.1.1.0 in
       let out : part (part_fields s) 8 ≡ p8 =
-      rw (out-back (get_or p8 0 0) (fit-get w8 p8 f8 0 (omega arith)) g.mixed) (listed-is 0 1 p8 (sym (fit_length w8 p8 f8))) in
+      rw (out-back signed o.plain_sum (get_or p8 0 0) (fit-get w8 p8 f8 0 (omega arith)) g.mixed)
+      (listed-is 0 1 p8 (sym (fit_length w8 p8 f8))) in
       let f10-on = f6-on.1.1.1.1 in
       let prg = pages-num prg_entries (part ps 10) f10-on.0 in
       let chr = pages-num chr_entries (part ps 11) f10-on.1.0 in
@@ -184,5 +201,6 @@ module _ (vs options : List ℕ) (f : Fit widths vs) (k : Known (state_of vs opt
       ∷ port i ∷ levels i ∷ out i ∷ part ps 9 ∷ prg i ∷ chr i ∷ layout i ∷ []) in
       all ∙ joined-cut part_widths vs f
     where
-      level-of : (p : List ℕ) → Levels (map whole p) → (i : ℕ) → i < 8 → i < length p → Level (whole (get_or p i 0))
-      level-of p o i h l = subst Level (get_or-map whole p i 0 nan l) (o i h)
+      level-of : (signed : Bool) (p : List ℕ) → Levels signed (map (output_from signed) p) → (i : ℕ) → i < 8 → i < length p
+          → Level signed (output_from signed (get_or p i 0))
+      level-of signed p o i h l = subst (Level signed) (get_or-map (output_from signed) p i 0 nan l) (o i h)

@@ -1,16 +1,14 @@
 -- Both ways between what a state holds and its fields' values, element by element.
-use mathlib.Core.Path.{◌≡◌, refl, sym, ap, ap₂, ◌∙◌, subst}
+use mathlib.Core.Path.{◌≡◌, refl, sym, ap, ap₂, ◌∙◌}
 use mathlib.Core.Bool.{Bool, true, false, cond}
 use mathlib.Core.List.{List, [], ◌∷◌, map}
-use Prim.Native.Nat.{ℕ, zero, suc, ◌+◌, ◌*◌, ◌^◌, ◌/◌, ◌%◌, ◌≤◌, ◌<◌}
+use Prim.Native.Nat.{ℕ, zero, suc, ◌+◌, ◌-◌, ◌*◌, ◌^◌, ◌/◌, ◌%◌, ◌≤◌, ◌<◌}
 use native.Mathlib.Omega.{arith}
-use borrow.Author.Tests.{eqb-true, eqb-false}
-use lib.Dec.{T, le→leb}
-use lib.Ieee.{Float, binary32, of_bits, fits, in_float, to_unsigned}
-use lib.Ieee.Back.{unsigned_back}
-use lib.Ieee.Bits.{of_bits-to_bits}
-use lib.Ieee.Fits.{of_int-fits}
-use lib.IntN.{pos}
+use borrow.Author.Tests.{eqb-true, eqb-false, le-leb, lt-leb}
+use lib.Dec.{leb, le→leb, lt→ltb}
+use lib.Ieee.{Float, binary32, in_float, to_signed}
+use lib.Ieee.Back.{positive_back, negative_back}
+use lib.IntN.{ℤ, pos, negsuc, nat_abs}
 use lib.ListN.{length, get_or}
 use Rattle.bits.specs.Fields.{bit, Fit, times, each}
 use Rattle.bits.proofs.Fields.{bit-eqb}
@@ -23,11 +21,12 @@ use Rattle.memory.specs.declared.page.Page.{Page}
 use Rattle.memory.specs.Mirroring.{mirroring_num}
 use Rattle.memory.specs.Range.{EntryIn}
 use Rattle.memory.specs.Page.{unmapped, page_of, offset_of, writable_of}
-use Rattle.sound.specs.Levels.{whole}
-use Rattle.sound.specs.Range.{Level}
+use Rattle.sound.specs.Levels.{whole_z}
+use Rattle.sound.specs.Range.{level_low, level_high, WholeIn, Level}
+use Rattle.sound.proofs.range.Laws.{level-size}
 use Rattle.image_write.specs.Image.{level_num, page_widths, page_fields}
-use Rattle.image_write.proofs.Levels.{level-small, level-same}
-use Rattle.image_read.specs.Reading.{is_set, board_numbered, mirroring_numbered, pages_of}
+use Rattle.image_write.proofs.Levels.{field_of, level-num as level-field}
+use Rattle.image_read.specs.Reading.{is_set, board_numbered, mirroring_numbered, pages_of, level_from, output_from}
 
 -- ---- one element
 
@@ -73,22 +72,46 @@ mirroring-num (suc (suc (suc zero))) h = refl
 mirroring-num (suc (suc (suc (suc zero)))) h = refl
 mirroring-num (suc (suc (suc (suc (suc v))))) h = absurd (let z : ⊥ = omega arith in z)
 
-pub level-back : (x : Float) → Level x → whole (level_num x) ≡ x
-level-back x l =
-    sym (of_bits-to_bits binary32 (whole (level_num x)) (of_int-fits binary32 (pos (level_num x))))
-    ∙ ap (of_bits binary32) (level-same x l)
-    ∙ of_bits-to_bits binary32 x (subst (λ (y : Float). T (fits binary32 y)) (sym l.is) (of_int-fits binary32 (pos l.size)))
+-- H11: a level comes back from its 12 bits
+there_and_back : (signed : Bool) (z : ℤ) → WholeIn (level_low signed) (level_high signed) z → level_from signed (field_of z) ≡ z
+there_and_back true (pos n) h = rw (lt-leb 2048 n (omega arith))
+there_and_back true (negsuc n) h = rw (le-leb 2048 (4096 - suc n) (omega arith)) (ap negsuc (omega arith))
+there_and_back false (pos n) h = refl
+there_and_back false (negsuc n) h = absurd (omega arith)
 
--- whole numbers up to 2 ^ 24 are floats
-whole_back : (n : ℕ) → n ≤ 2 ^ 24 → to_unsigned 32 (whole n) ≡ n
+pub level-back : (signed : Bool) (x : Float) → Level signed x → output_from signed (level_num x) ≡ x
+level-back signed x l =
+    ap (output_from signed) (level-field signed x l)
+    ∙ ap whole_z (there_and_back signed l.number l.within)
+    ∙ sym l.is
+
+-- and 12 bits from their number, which is small
+record Trip (z : ℤ) (n : ℕ) : Type 0 where
+  pub back : field_of z ≡ n
+  pub small : nat_abs z ≤ 4096
+
+back-and-there : (signed : Bool) (n : ℕ) → n < 4096 → Trip (level_from signed n) n
+back-and-there false n h = record { back = refl; small = omega arith }
+back-and-there true n h = go (leb 2048 n)
+  where
+    go : (t : Bool) → Trip (cond t (negsuc (4095 - n)) (pos n)) n
+    go true = record { back = omega arith; small = omega arith }
+    go false = record { back = refl; small = omega arith }
+
+-- whole numbers up to 2 ^ 24 in size are floats
+whole_back : (z : ℤ) → nat_abs z ≤ 2 ^ 24 → to_signed 31 (whole_z z) ≡ z
 unfolding in_float
-whole_back n h = (unsigned_back binary32 32 n (le→leb n (2 ^ 24) h) (omega arith)).1
+whole_back (pos n) h = (positive_back binary32 31 n (le→leb n (2 ^ 24) h) (omega arith)).1
+whole_back (negsuc n) h = (negative_back binary32 31 n (lt→ltb n (2 ^ 24) h) (omega arith)).1
 
-pub level-num : (n : ℕ) → n < 4096 → Level (whole n) → level_num (whole n) ≡ n
-level-num n h l =
-    sym (whole_back (level_num (whole n)) (omega (arith, level-small (whole n) l)))
-    ∙ ap (to_unsigned 32) (level-back (whole n) l)
-    ∙ whole_back n (omega arith)
+pub level-num : (signed : Bool) (n : ℕ) → n < 4096 → Level signed (output_from signed n) → level_num (output_from signed n) ≡ n
+level-num signed n h l =
+    let trip = back-and-there signed n h in
+    let same : l.number ≡ level_from signed n =
+    sym (whole_back l.number (omega (arith, level-size signed l.number l.within)))
+    ∙ ap (to_signed 31) (sym l.is)
+    ∙ whole_back (level_from signed n) (omega (arith, trip.small)) in
+    level-field signed (output_from signed n) l ∙ ap field_of same ∙ trip.back
 
 pub page-back : (n : ℕ) (p : Page) → p.0 < 2 ^ 32 → EntryIn n p → page_of (1024 * (offset_of p / 1024)) (is_set (bit (writable_of p)))
     ≡ p

@@ -1,5 +1,6 @@
 -- H1, N1, N2: image reading. The state that an image's fields make, and which images are accepted.
-use Rattle.std.specs.Prelude.{ℕ, zero, suc, ◌*◌, Bool, cond, not, ◌&&◌, List, [], ◌∷◌, map, eqb, leb, length, get_or, take, drop, Result}
+use Rattle.std.specs.Prelude.{ℕ, zero, suc, ◌-◌, ◌*◌, Bool, cond, not, ◌&&◌, List, [], ◌∷◌, map, eqb, leb, ℤ, pos, negsuc, Float}
+use Rattle.std.specs.Prelude.{length, get_or, take, drop, Result}
 use Rattle.std.specs.Float.{binary32}
 use Rattle.std.specs.Float.Ieee.{of_bits}
 use Rattle.bits.specs.Fields.{unpack}
@@ -11,11 +12,12 @@ use Rattle.memory.specs.declared.mirroring.Mirroring.TheVariants.{Vertical, Hori
 use Rattle.memory.specs.declared.page.Page.{Page}
 use Rattle.memory.specs.Page.{page_of}
 use Rattle.sound.specs.declared.audio.Audio.{Audio}
-use Rattle.sound.specs.Levels.{whole}
+use Rattle.sound.specs.Levels.{whole_z}
 use Rattle.board_chip.specs.declared.namco163.Board.{Board}
 use Rattle.board_chip.specs.declared.namco163.Board.TheVariants.{Unknown, Namco163 as Is163, Namco175, Namco340}
 use Rattle.board_chip.specs.declared.namco163.Namco163.{Namco163}
 use Rattle.board_chip.specs.declared.namco163.Regs.{Regs}
+use Rattle.board_state.specs.declared.Options.{Options}
 use Rattle.board_state.specs.declared.State.{State}
 use Rattle.board_state.specs.State.{in_range}
 use Rattle.call_refusals.specs.Refusals.{Check, unless_refused}
@@ -61,9 +63,17 @@ unfoldable pub cut_into : List (List ℕ) → List ℕ → List (List ℕ)
 cut_into [] vs = []
 cut_into (p ∷ ps) vs = take (length p) vs ∷ cut_into ps (drop (length p) vs)
 
--- the sound of its five parts: RAM, port and sound clock, outputs, `out`, phases
-abbrev pub audio_from : List ℕ → List ℕ → List ℕ → List ℕ → List ℕ → Audio
-audio_from ram port outputs out phases =
+-- H11: the whole number of an output's 12 bits, two's complement where levels are signed
+abbrev pub level_from : Bool → ℕ → ℤ
+level_from signed n = cond (signed && leb 2048 n) (negsuc (4095 - n)) (pos n)
+
+-- and the output
+abbrev pub output_from : Bool → ℕ → Float
+output_from signed n = whole_z (level_from signed n)
+
+-- the sound of its five parts, RAM, port and sound clock, outputs, `out`, phases, and of its choices
+abbrev pub audio_from : List ℕ → List ℕ → List ℕ → List ℕ → List ℕ → Options → Audio
+audio_from ram port outputs out phases options =
     record {
       ram = ram;
       addr = get_or port 0 0;
@@ -71,9 +81,11 @@ audio_from ram port outputs out phases =
       disabled = is_set (get_or port 2 0);
       update_counter = get_or port 3 0;
       current_channel = get_or port 4 0;
-      channel_out = map whole outputs;
+      channel_out = map (output_from options.signed_levels) outputs;
       out = of_bits binary32 (get_or out 0 0);
       phase_ext = phases;
+      signed_levels = options.signed_levels;
+      plain_sum = options.plain_sum;
     }
 
 -- the registers, the first five fields of the first part
@@ -122,30 +134,35 @@ memory_from prg chr layout =
       chr_pages = pages_of chr;
     }
 
+-- H9, H11: the options of their fields
+abbrev pub options_from : List ℕ → Options
+options_from fs =
+    record { f800_protects = is_set (get_or fs 0 0); signed_levels = is_set (get_or fs 1 0); plain_sum = is_set (get_or fs 2 0) }
+
 -- the state of the thirteen parts and the options
-unfoldable pub state_from : List (List ℕ) → List ℕ → State
+unfoldable pub state_from : List (List ℕ) → Options → State
 state_from ps options =
     record {
       chip =
           chip_from (part ps 0) (part ps 1) (part ps 2) (part ps 3) (part ps 4)
-          (audio_from (part ps 5) (part ps 6) (part ps 7) (part ps 8) (part ps 9));
+          (audio_from (part ps 5) (part ps 6) (part ps 7) (part ps 8) (part ps 9) options);
       memory = memory_from (part ps 10) (part ps 11) (part ps 12);
-      f800_protects = is_set (get_or options 0 0);
+      f800_protects = options.f800_protects;
     }
 
 -- the state of all fields and of the options
 unfoldable pub state_of : List ℕ → List ℕ → State
-state_of vs options = state_from (cut_into part_widths vs) options
+state_of vs options = state_from (cut_into part_widths vs) (options_from options)
 
 -- ---- which images are accepted: N1, N2
 
--- R9: the mirroring is at most 4 and the state is in range, so the mapper is 19 or 210, the update counter at most 14, each output at most
--- 3825, `out` of at most the bits of 3825, each page number that of an arena page, each page count at most R1's, CIRAM at least 1, and the
+-- R9, R11: the mirroring is at most 4 and the state is in range, so the mapper is 19 or 210, the update counter at most 14, each output and
+-- `out` in the range of the choices, each page number that of an arena page, each page count at most R1's, CIRAM at least 1, and the
 -- reserve used only where it has a page; and no option bit is set that means nothing
 unfoldable pub fields_ok : List ℕ → List ℕ → Bool
 fields_ok vs options =
     leb (get_or (part (cut_into part_widths vs) 1) 1 0) 4
-    && (eqb (get_or options 1 0) 0
+    && (eqb (get_or options 3 0) 0
     && in_range (state_of vs options))
 
 -- the fields of the bytes before the options

@@ -1,10 +1,11 @@
 -- H1: the parts of an image as they lie in its bytes, and as the words that the code reads them in.
-use Rattle.std.specs.Prelude.{ℕ, ◌-◌, ◌^◌, ◌<◌, Bool, List, [], ◌∷◌, ◌++◌, take, drop, replicate}
+use Rattle.std.specs.Prelude.{ℕ, ◌-◌, List, [], ◌∷◌, ◌++◌, take, drop, replicate}
 use Rattle.bits.specs.Fields.{unpack}
 use Rattle.bits.specs.Words.{word_of}
 use Rattle.memory.specs.declared.Memory.{Memory}
 use Rattle.sound.specs.declared.audio.Audio.{Audio}
 use Rattle.board_chip.specs.declared.namco163.Namco163.{Namco163}
+use Rattle.board_state.specs.declared.Options.{Options}
 use Rattle.board_state.specs.declared.State.{State}
 use Rattle.image_write.specs.Image.{image_bytes, part, chip_widths, sound_widths, memory_widths}
 use Rattle.image_write.specs.Sections.{ram_at, port_at, levels_at, out_at, phases_at, prg_pages_at, chr_pages_at, layout_at}
@@ -29,15 +30,16 @@ head_parts h =
 abbrev pub chip_of : Head → Audio → Namco163
 chip_of h audio = let p = head_parts h in chip_from (part p 0) (part p 1) (part p 2) (part p 3) (part p 4) audio
 
--- the sound, given the bits of `out`
-unfoldable pub sound_at : List ℕ → ℕ → Audio
-sound_at img bits =
+-- the sound, given the bits of `out` and the options
+unfoldable pub sound_at : List ℕ → ℕ → Options → Audio
+sound_at img bits options =
     audio_from
     (fields_at (part sound_widths 0) img ram_at (port_at - ram_at))
     (fields_at (part sound_widths 1) img port_at (levels_at - port_at))
     (fields_at (part sound_widths 2) img levels_at (out_at - levels_at))
     (bits ∷ [])
     (fields_at (part sound_widths 4) img phases_at (prg_pages_at - phases_at))
+    options
 
 -- the memory
 unfoldable pub memory_at : List ℕ → Memory
@@ -47,7 +49,7 @@ memory_at img =
     (fields_at (part memory_widths 1) img chr_pages_at (layout_at - chr_pages_at))
     (fields_at (part memory_widths 2) img layout_at (image_bytes - layout_at))
 
--- the state, given the board's words, the bits of `out` and the option
-abbrev pub state_at : List ℕ → Head → ℕ → Bool → State
-state_at img h bits protects =
-    record { chip = chip_of h (sound_at img bits); memory = memory_at img; f800_protects = protects }
+-- the state, given the board's words, the bits of `out` and the options
+abbrev pub state_at : List ℕ → Head → ℕ → Options → State
+state_at img h bits options =
+    record { chip = chip_of h (sound_at img bits options); memory = memory_at img; f800_protects = options.f800_protects }

@@ -1,32 +1,34 @@
 // An image to its state.
-ghost use Rattle.std.specs.Prelude.{◌≡◌, map, ℕ, ◌-◌, ◌*◌, ◌/◌, ◌%◌, ◌<◌, ◌≤◌, length, get_or, replicate};
-ghost use Rattle.limits.specs.Limits.{out_most};
-ghost use Rattle.sound.specs.Levels.{whole};
-ghost use Rattle.image_write.specs.Image.{image_bytes, chip_widths, joined};
+ghost use Rattle.std.specs.Prelude.{◌≡◌, map, not, ℕ, ◌-◌, ◌*◌, ◌/◌, ◌%◌, ◌<◌, T, get_or, replicate};
+ghost use Rattle.std.specs.Float.{binary32};
+ghost use Rattle.std.specs.Float.Ieee.{nan_bits};
+ghost use Rattle.image_write.specs.Image.{chip_widths, joined};
 ghost use Rattle.image_write.specs.Sections.{chip_at, ram_at, port_at, levels_at, out_at, phases_at, prg_pages_at};
-ghost use Rattle.image_read.specs.Reading.{read_answer, read_image, read_body};
+ghost use Rattle.image_read.specs.Reading.{output_from, read_answer, read_image, read_body};
 ghost use Rattle.image_read.specs.Sections.{fields_at, head_parts, chip_of, sound_at, memory_at, state_at};
 
 use crate::head::Head;
 use crate::pages::get_pages;
 use crate::words::{
-    board_numbered, chr_banks_of, flags_of, mirroring_numbered, prg_banks_of, regs_of,
+    board_numbered, chr_banks_of, flags_of, mirroring_numbered, options_numbered, output_numbered,
+    prg_banks_of, regs_of,
 };
 use bits::cursor::Cursor;
 use bits::words::load;
 use board_chip::namco163::Namco163;
-use board_state::State;
+use board_state::{Options, State};
 use call_refusals::known::KnownState;
 use image_write::sections::{
     CHIP_AT, CHR_PAGES_AT, IMAGE_BYTES, LAYOUT_AT, LEVELS_AT, OUT_AT, PHASES_AT, PORT_AT,
     PRG_PAGES_AT, RAM_AT,
 };
-use limits::{OUT_MOST, USED_MOST};
+use limits::USED_MOST;
 use memory::Memory;
 use memory::layout::Layout;
 use memory::page::Page;
 use refusals::Refusal;
 use sound::audio::Audio;
+use sound::range::bits_ok;
 
 // The board's words, one behind the other.
 fn read_head(img: &[u8; IMAGE_BYTES]) -> Head
@@ -75,20 +77,20 @@ fn get_ram(img: &[u8; IMAGE_BYTES]) -> [u8; 128]
     ram
 }
 
-// The channel outputs of their whole numbers.
-fn levels_of(ns: [u32; 8]) -> [f32; 8]
+// The channel outputs of their 12 bits.
+fn levels_of(ns: [u32; 8], signed: bool) -> [f32; 8]
     requires { (i : ℕ) → get_or ns i 0 < 4096 }
-    ensures { result ≡ map whole ns }
+    ensures { result ≡ map (output_from signed) ns }
 {
-    ns.map(|n| n as f32)
+    ns.map(|n| output_numbered(n, signed))
 }
 
-fn get_levels(img: &[u8; IMAGE_BYTES]) -> [f32; 8]
-    ensures { result ≡ map whole (fields_at (replicate 8 12) img.now levels_at (out_at - levels_at)) }
+fn get_levels(img: &[u8; IMAGE_BYTES], signed: bool) -> [f32; 8]
+    ensures { result ≡ map (output_from signed) (fields_at (replicate 8 12) img.now levels_at (out_at - levels_at)) }
 {
     let mut ns = [0; 8];
     Cursor::at_byte(LEVELS_AT).get_run(img, 12, &mut ns);
-    levels_of(ns)
+    levels_of(ns, signed)
 }
 
 fn get_phases(img: &[u8; IMAGE_BYTES]) -> [u32; 8]
@@ -99,10 +101,10 @@ fn get_phases(img: &[u8; IMAGE_BYTES]) -> [u32; 8]
     phases
 }
 
-// The sound, given the bits of `out`, which are a number's.
-fn read_sound(img: &[u8; IMAGE_BYTES], bits: u32) -> Audio
-    requires { bits ≤ out_most }
-    ensures { result ≡ sound_at img.now bits }
+// The sound, given the bits of `out`, which are a number's, and the options.
+fn read_sound(img: &[u8; IMAGE_BYTES], bits: u32, options: Options) -> Audio
+    requires { T (not (nan_bits binary32 bits)) }
+    ensures { result ≡ sound_at img.now bits options }
 {
     let port = load(img, PORT_AT, 2, 0);
     Audio {
@@ -112,9 +114,11 @@ fn read_sound(img: &[u8; IMAGE_BYTES], bits: u32) -> Audio
         disabled: port / 128 % 2 == 1,
         update_counter: (port / 8 % 16) as u8,
         current_channel: (port % 8) as u8,
-        channel_out: get_levels(img),
+        channel_out: get_levels(img, options.signed_levels),
         out: f32::from_bits(bits),
         phase_ext: get_phases(img),
+        signed_levels: options.signed_levels,
+        plain_sum: options.plain_sum,
     }
 }
 
@@ -142,34 +146,35 @@ fn read_memory(img: &[u8; IMAGE_BYTES]) -> Memory
     }
 }
 
-// The state of IMAGE_BYTES bytes, given the board's words, the bits of `out` and the option.
-fn read_fields(img: &[u8; IMAGE_BYTES], h: Head, bits: u32, f800_protects: bool) -> State
-    requires { bits ≤ out_most }
-    ensures { result ≡ state_at img.now h bits f800_protects }
+// The state of IMAGE_BYTES bytes, given the board's words, the bits of `out` and the options.
+fn read_fields(img: &[u8; IMAGE_BYTES], h: Head, bits: u32, options: Options) -> State
+    requires { T (not (nan_bits binary32 bits)) }
+    ensures { result ≡ state_at img.now h bits options }
 {
     State {
-        chip: chip_of(h, read_sound(img, bits)),
+        chip: chip_of(h, read_sound(img, bits, options)),
         memory: read_memory(img),
-        f800_protects,
+        f800_protects: options.f800_protects,
     }
 }
 
 // Reads the IMAGE_BYTES bytes before the options, given the byte of options.
-fn read_body(img: &[u8; IMAGE_BYTES], options: u8) -> Result<KnownState, Refusal>
-    ensures { read_answer result ≡ read_body img.now options }
+fn read_body(img: &[u8; IMAGE_BYTES], byte: u8) -> Result<KnownState, Refusal>
+    ensures { read_answer result ≡ read_body img.now byte }
 {
-    if options % 128 != 0 {
+    if byte % 32 != 0 {
         return Err(Refusal::State);
     }
-    let bits = load(img, OUT_AT, 4, 0);
+    let options = options_numbered(byte);
+    let bits = load(img, OUT_AT, 4, 0) as u32;
     let h = read_head(img);
-    if (OUT_MOST as u64) < bits {
+    if !bits_ok(options.signed_levels, options.plain_sum, bits) {
         return Err(Refusal::State);
     }
     if 4 < h.detection / 2 % 8 {
         return Err(Refusal::State);
     }
-    KnownState::new(read_fields(img, h, bits as u32, options / 128 == 1))
+    KnownState::new(read_fields(img, h, bits, options))
 }
 
 // Reads an image of either length.

@@ -1,11 +1,12 @@
 // Words back to the fields that they hold.
-ghost use Rattle.std.specs.Prelude.{◌≡◌, ◌++◌, map, ◌/◌, ◌%◌, replicate};
+ghost use Rattle.std.specs.Prelude.{◌≡◌, ◌++◌, map, ◌/◌, ◌%◌, ◌<◌, replicate};
 ghost use Rattle.bits.specs.Fields.{unpack};
 ghost use Rattle.image_write.specs.Image.{part, chip_widths};
-ghost use Rattle.image_read.specs.Reading.{is_set, regs_from, board_numbered, mirroring_numbered};
+ghost use Rattle.image_read.specs.Reading.{is_set, options_from, options_of, output_from, regs_from, board_numbered, mirroring_numbered};
 
 use bits::words::store;
 use board_chip::namco163::{Board, Regs};
+use board_state::Options;
 use memory::mirroring::Mirroring;
 
 pub fn regs_of(w: u64) -> Regs
@@ -18,6 +19,28 @@ pub fn regs_of(w: u64) -> Regs
         nt_select_hi: w / 0x04_0000_0000 % 2 == 1,
         prg_ram_protect: (w / 0x0400_0000 % 256) as u8,
     }
+}
+
+// H9, H11: the options of their byte.
+pub fn options_numbered(byte: u8) -> Options
+    ensures { result ≡ options_from (options_of byte) }
+{
+    Options {
+        f800_protects: byte / 128 % 2 == 1,
+        signed_levels: byte / 64 % 2 == 1,
+        plain_sum: byte / 32 % 2 == 1,
+    }
+}
+
+// H11: the channel output of its 12 bits.
+pub fn output_numbered(n: u32, signed: bool) -> f32
+    requires { n < 4096 }
+    ensures { result ≡ output_from signed n }
+{
+    if signed && 2048 <= n {
+        return ((n as i32) - 4096) as f32;
+    }
+    n as f32
 }
 
 // This and the next are total, as their definitions are: what they give of a number that none has is read by nobody, since `read_body`

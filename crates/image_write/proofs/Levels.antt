@@ -1,23 +1,50 @@
--- A channel output is a number in the range of `out`, and the float of a whole number of at most `level_most`.
-use Prim.Native.Nat.{◌≤◌}
-use mathlib.Core.Path.{◌≡◌}
-use borrow.Author.Tests.{eqb-true}
-use lib.Ieee.{Float, binary32, to_bits}
-use Rattle.sound.specs.Levels.{whole}
-use Rattle.sound.specs.Range.{out_ok, OutInRange, level_ok, Level}
-use Rattle.sound.proofs.levels.Laws.{part_small}
-use Rattle.sound.proofs.range.Laws.{out-in, level-ok}
-use Rattle.limits.specs.Limits.{level_most}
-use Rattle.limits.proofs.Every.{first_of}
+-- H11: a channel output in range is written as the field of its whole number, in 12 bits.
+use Prim.Native.Nat.{ℕ, suc, ◌-◌, ◌≤◌, ◌<◌}
+use mathlib.Core.Path.{◌≡◌, refl}
+use mathlib.Core.Bool.{Bool, cond, not}
+use native.Mathlib.Omega.{arith}
+use lib.IntN.{ℤ, pos, negsuc, nat_abs}
+use lib.Dec.{T}
+use lib.Ieee.{Float, is_nan}
+use Rattle.limits.specs.Limits.{level_most, out_most}
+use Rattle.sound.specs.Levels.{is_neg, whole_part}
+use Rattle.sound.specs.Range.{Level, size_bits}
+use Rattle.sound.proofs.range.Laws.{level-size, level-parts}
 use Rattle.image_write.specs.Image.{level_num}
 
-pub level_out : (x : Float) → Level x → OutInRange x
-unfolding level_ok
-level_out x l = out-in x (first_of (out_ok x) _ (level-ok x l)).0
+-- a whole number as 12 bits
+abbrev pub field_of : ℤ → ℕ
+field_of (pos n) = n
+field_of (negsuc n) = 4096 - suc n
 
-pub level-small : (x : Float) → Level x → level_num x ≤ level_most
-level-small x l = part_small (to_bits binary32 x) (level_out x l).bits
+pub field-small : (z : ℤ) → nat_abs z ≤ level_most → field_of z < 4096
+field-small (pos n) h = omega arith
+field-small (negsuc n) h = omega arith
 
-pub level-same : (x : Float) → Level x → to_bits binary32 (whole (level_num x)) ≡ to_bits binary32 x
-unfolding level_ok
-level-same x l = eqb-true (to_bits binary32 (whole (level_num x))) (to_bits binary32 x) (first_of (out_ok x) _ (level-ok x l)).1
+field-by-sign : (z : ℤ) → cond (not (is_neg z)) (nat_abs z) (4096 - nat_abs z) ≡ field_of z
+field-by-sign (pos n) = refl
+field-by-sign (negsuc n) = refl
+
+pub level-num : (signed : Bool) (x : Float) (l : Level signed x) → level_num x ≡ field_of l.number
+unfolding level_num
+level-num signed x l =
+    let p = level-parts signed x l in
+    rw (p.sign, p.part) (field-by-sign l.number)
+
+-- what its writing asks of an output: a number, whose size has a whole part, and 12 bits
+pub record LevelFits (x : Float) : Type 0 where
+  pub number : T (not (is_nan x))
+  pub size : size_bits x ≤ out_most
+  pub part : whole_part (size_bits x) ≤ level_most
+  pub field : level_num x < 4096
+
+pub level-fits : (signed : Bool) (x : Float) → Level signed x → LevelFits x
+level-fits signed x l =
+    let p = level-parts signed x l in
+    let n = level-size signed l.number l.within in
+    record {
+      number = p.number;
+      size = p.size;
+      part = rw p.part n;
+      field = rw (level-num signed x l) (field-small l.number n);
+    }

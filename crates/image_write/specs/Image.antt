@@ -1,11 +1,11 @@
 -- H1, H2: the image. The widths of its fields and a state's values for them, in H1's order, as lists of parts.
-use Rattle.std.specs.Prelude.{ℕ, ◌/◌, List, [], ◌∷◌, ◌++◌, map, eqb, Float, get_or, replicate}
+use Rattle.std.specs.Prelude.{ℕ, ◌-◌, ◌/◌, cond, List, [], ◌∷◌, ◌++◌, map, eqb, ltb, Float, get_or, replicate}
 use Rattle.std.specs.Float.{binary32}
 use Rattle.std.specs.Float.Ieee.{to_bits}
 use Rattle.bits.specs.Fields.{pack, bit, times, each}
 use Rattle.bits.specs.Words.{bytes_of}
 use Rattle.bits.specs.declared.cursor.Cursor.{Cursor}
-use Rattle.limits.specs.Limits.{used_most, prg_entries, chr_entries}
+use Rattle.limits.specs.Limits.{used_most, prg_entries, chr_entries, minus_zero}
 use Rattle.memory.specs.declared.Memory.{Memory}
 use Rattle.memory.specs.declared.page.Page.{Page}
 use Rattle.memory.specs.Mirroring.{mirroring_num}
@@ -15,6 +15,7 @@ use Rattle.board_chip.specs.declared.namco163.Namco163.{Namco163}
 use Rattle.board_chip.specs.Namco163.{board_num}
 use Rattle.board_state.specs.declared.State.{State}
 use Rattle.sound.specs.Levels.{whole_part}
+use Rattle.sound.specs.Range.{size_bits}
 
 -- H1: the length of an image
 abbrev pub image_bytes : ℕ
@@ -53,9 +54,9 @@ chip_fields n =
 abbrev pub sound_widths : List (List ℕ)
 sound_widths = replicate 128 8 ∷ (7 ∷ 1 ∷ 1 ∷ 4 ∷ 3 ∷ []) ∷ replicate 8 12 ∷ (32 ∷ []) ∷ replicate 8 24 ∷ []
 
--- a channel output as its whole number
-abbrev pub level_num : Float → ℕ
-level_num x = whole_part (to_bits binary32 x)
+-- H1, H11: a channel output as its whole number; below zero 4096 less its size, which is two's complement in 12 bits
+unfoldable pub level_num : Float → ℕ
+level_num x = cond (ltb (to_bits binary32 x) minus_zero) (whole_part (size_bits x)) (4096 - whole_part (size_bits x))
 
 abbrev pub sound_fields : Audio → List (List ℕ)
 sound_fields a =

@@ -1,23 +1,25 @@
--- H9, H10: the byte of options behind an image, the image at each of its two lengths, and which of them holds a state.
+-- H9 to H11: the byte of options behind an image, the image at each of its two lengths, and which of them holds a state.
 use Rattle.std.specs.Prelude.{ℕ, ◌≡◌, Bool, false, cond, not, ◌&&◌, ◌||◌, List, [], ◌∷◌, ◌++◌, eqb}
 use Rattle.bits.specs.Fields.{pack, bit}
+use Rattle.board_state.specs.declared.Options.{Options}
 use Rattle.board_state.specs.declared.State.{State}
+use Rattle.board_state.specs.State.{any_option, options_in}
 use Rattle.image_write.specs.Image.{image_bytes, image_of}
 
 -- H9: the length of an image with its options
 abbrev pub options_image_bytes : ℕ
 options_image_bytes = 308
 
--- H9: whether F800 protects, and the bits that mean nothing
+-- H9, H11: whether F800 protects, whether levels are signed, whether they are summed plainly, and the bits that mean nothing
 abbrev pub option_widths : List ℕ
-option_widths = 1 ∷ 7 ∷ []
+option_widths = 1 ∷ 1 ∷ 1 ∷ 5 ∷ []
 
-abbrev pub option_fields : State → List ℕ
-option_fields s = bit s.f800_protects ∷ 0 ∷ []
+abbrev pub option_fields : Options → List ℕ
+option_fields o = bit o.f800_protects ∷ bit o.signed_levels ∷ bit o.plain_sum ∷ 0 ∷ []
 
 -- H9: the byte itself, the most significant bit first
 unfoldable pub options_byte : State → ℕ
-options_byte s = pack option_widths (option_fields s)
+options_byte s = pack option_widths (option_fields (options_in s))
 
 -- H10: the image of a state in n bytes
 unfoldable pub image_at : ℕ → State → List ℕ
@@ -25,7 +27,7 @@ image_at n s = cond (eqb n options_image_bytes) (image_of s ++ (options_byte s �
 
 -- H10: whether a state has an option, so that its options are not all zero
 abbrev pub option_set : State → Bool
-option_set s = s.f800_protects
+option_set s = any_option (options_in s)
 
 -- H10, N1: n bytes hold an image, `set` being whether an option is set in it
 unfoldable pub room_for : Bool → ℕ → Bool

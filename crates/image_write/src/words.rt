@@ -1,18 +1,22 @@
 // Fields as words: several fields in one number, the first the most significant.
-ghost use Rattle.std.specs.Prelude.{◌≡◌, [], ◌∷◌, map, ◌^◌, ◌<◌, ◌≤◌, get_or, replicate};
+ghost use Rattle.std.specs.Prelude.{◌≡◌, cond, [], ◌∷◌, map, ◌-◌, ◌%◌, ◌^◌, ◌<◌, ◌≤◌, ltb, get_or, replicate};
 ghost use Rattle.bits.specs.Fields.{bit, pack, times, each};
-ghost use Rattle.limits.specs.Limits.{update_most, channel_most, address_most, bank_most};
+ghost use Rattle.limits.specs.Limits.{update_most, channel_most, address_most, bank_most, level_most, out_most, minus_zero};
 ghost use Rattle.memory.specs.Range.{GoodLayout};
 ghost use Rattle.memory.specs.Page.{offset_of};
 ghost use Rattle.image_write.specs.Image.{part, chip_widths, chip_fields, sound_widths, sound_fields};
 ghost use Rattle.image_write.specs.Image.{page_widths, page_fields, layout_widths, layout_fields};
+ghost use Rattle.sound.specs.Levels.{whole_part};
+ghost use Rattle.image_write.specs.Options.{option_widths, option_fields};
 ghost use Rattle.image_write.specs.Pages.{offset_limit};
 
 use board_chip::namco163::Namco163;
-use limits::USED_MOST;
+use board_state::Options;
+use limits::{MINUS_ZERO, USED_MOST};
 use memory::Memory;
 use memory::page::Page;
 use sound::audio::Audio;
+use sound::levels::whole_part;
 
 // The registers, the board and its numbers in 53 bits.
 pub fn regs_word(chip: &Namco163) -> u64
@@ -84,6 +88,22 @@ pub fn layout_word(m: &Memory) -> u64
     let used = u64::from(m.battery_ext_len == USED_MOST);
     let prg = ((l.prg_rom as u64) * 128 + (l.prg_ram as u64)) * 2 + (l.battery_ext as u64);
     ((prg * 512 + (l.chr as u64)) * 2 + ram) * 16 + (l.ciram as u64) * 2 + used
+}
+
+// H11: the channel output with these bits in 12 bits.
+pub fn level_word(bits: u32) -> u64
+    requires { (bits % minus_zero ≤ out_most) × (whole_part (bits % minus_zero) ≤ level_most) }
+    ensures { result ≡ cond (ltb bits minus_zero) (whole_part (bits % minus_zero)) (4096 - whole_part (bits % minus_zero)) }
+{
+    let part = u64::from(whole_part(bits % MINUS_ZERO));
+    if bits < MINUS_ZERO { part } else { 4096 - part }
+}
+
+// H9, H11: the options in a byte.
+pub fn options_byte(o: Options) -> u8
+    ensures { result ≡ pack option_widths (option_fields o) }
+{
+    u8::from(o.f800_protects) * 128 + u8::from(o.signed_levels) * 64 + u8::from(o.plain_sum) * 32
 }
 
 // A page entry in 11 bits. That its offset is in range is asked here, of four entries below and of tables in pages.rt (`PagesFit`): a host

@@ -1,12 +1,11 @@
 // A state to its image. The parts that start at a byte's start begin from their own place.
-ghost use Rattle.std.specs.Prelude.{◌≡◌, true, [], ◌∷◌, map, ◌+◌, ◌*◌, ◌<◌, ◌≤◌, length, replicate};
+ghost use Rattle.std.specs.Prelude.{◌≡◌, true, not, [], ◌∷◌, map, ◌<◌, T, length, replicate};
 ghost use Rattle.std.specs.Float.{binary32};
-ghost use Rattle.std.specs.Float.Ieee.{to_bits};
+ghost use Rattle.std.specs.Float.Ieee.{to_bits, is_nan};
 ghost use Rattle.bits.specs.Cursor.{Wrote};
-ghost use Rattle.bits.specs.Fields.{bit};
 ghost use Rattle.board_state.specs.State.{BanksIn, Known};
 ghost use Rattle.refusals.specs.Refusal.{refusal_of};
-ghost use Rattle.sound.specs.Range.{OutInRange, Levels, Phases, InRange as AudioInRange};
+ghost use Rattle.sound.specs.Range.{Phases, InRange as AudioInRange};
 ghost use Rattle.memory.specs.Range.{MemoryInRange};
 ghost use Rattle.image_write.specs.Image.{image_bytes, chip_widths, chip_fields, sound_widths};
 ghost use Rattle.image_write.specs.Image.{sound_fields, level_num, memory_widths, memory_fields, joined, image_of, byte_at};
@@ -19,7 +18,10 @@ use crate::sections::{
     CHIP_AT, CHR_PAGES_AT, IMAGE_BYTES, LAYOUT_AT, LEVELS_AT, OPTIONS_IMAGE_BYTES, OUT_AT,
     PHASES_AT, PORT_AT, PRG_PAGES_AT, RAM_AT,
 };
-use crate::words::{banks_word, detection_word, flags_word, layout_word, port_word, regs_word};
+use crate::words::{
+    banks_word, detection_word, flags_word, layout_word, level_word, options_byte, port_word,
+    regs_word,
+};
 use bits::cursor::Cursor;
 use bits::words::load;
 use board_chip::namco163::Namco163;
@@ -28,16 +30,16 @@ use call_refusals::known::KnownState;
 use memory::Memory;
 use refusals::Refusal;
 use sound::audio::Audio;
-use sound::levels::whole_part;
 
-// The channel outputs as whole numbers. A loop as `put_run` of the cursor has: no proof closed for that of the outputs by `map`.
-fn put_levels(img: &mut [u8; IMAGE_BYTES], outs: &[f32; 8])
-    requires { Levels outs.now }
-    ensures { Wrote img.old img.new (byte_at levels_at) (byte_at out_at) (replicate 8 12) (map level_num outs.now) }
+// The channel outputs as whole numbers, the same for either choice (H11). A loop as `put_run` of the cursor has: no proof closed for that
+// of the outputs by `map`.
+fn put_levels(img: &mut [u8; IMAGE_BYTES], audio: &Audio)
+    requires { AudioInRange audio.now }
+    ensures { Wrote img.old img.new (byte_at levels_at) (byte_at out_at) (replicate 8 12) (map level_num audio.now.channel_out) }
 {
     let mut c = Cursor::at_byte(LEVELS_AT);
-    for x in outs {
-        c.put(img, 12, u64::from(whole_part(x.to_bits())));
+    for x in &audio.channel_out {
+        c.put(img, 12, level_word(x.to_bits()));
     }
 }
 
@@ -50,7 +52,7 @@ fn put_ram(img: &mut [u8; IMAGE_BYTES], ram: &[u8; 128])
 // Here and below a range is asked as in sound_clock/src/clock.rt and memory/src/lib.rt: a host may lend any state, and write_image tests
 // it.
 fn put_out(img: &mut [u8; IMAGE_BYTES], x: f32)
-    requires { OutInRange x }
+    requires { T (not (is_nan x)) }
     ensures { Wrote img.old img.new (byte_at out_at) (byte_at phases_at) (32 ∷ []) (to_bits binary32 x ∷ []) }
 {
     Cursor::at_byte(OUT_AT).put(img, 32, u64::from(x.to_bits()));
@@ -85,7 +87,7 @@ fn put_sound(img: &mut [u8; IMAGE_BYTES], audio: &Audio)
 {
     put_ram(img, &audio.ram);
     Cursor::at_byte(PORT_AT).put(img, 16, port_word(audio));
-    put_levels(img, &audio.channel_out);
+    put_levels(img, audio);
     put_out(img, audio.out);
     put_phases(img, &audio.phase_ext);
 }
@@ -120,7 +122,7 @@ pub fn put_image(img: &mut [u8], s: State)
 {
     put_state(&mut img[..IMAGE_BYTES], &s);
     if img.len() == OPTIONS_IMAGE_BYTES {
-        img[IMAGE_BYTES] = u8::from(s.f800_protects) * 128;
+        img[IMAGE_BYTES] = options_byte(s.options());
     }
 }
 
@@ -137,7 +139,7 @@ pub fn write_image(s: State, img: &mut [u8]) -> Result<(), Refusal>
     ensures refusal { refusal_of result ≡ write_refusal s (length img.old) }
     ensures image { img.new ≡ written_image s img.old }
 {
-    if !room_for(s.f800_protects, img.len()) {
+    if !room_for(s.options().any(), img.len()) {
         return Err(Refusal::Image);
     }
     let known = KnownState::new(s)?;

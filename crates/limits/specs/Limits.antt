@@ -23,9 +23,36 @@ phase_limit = 2 ^ 24
 abbrev pub level_most : ℕ
 level_most = 3825
 
--- the bits of `out`: those of the float of `level_most`
+-- R11: a signed one, 7 at volume 15 above zero and 8 at volume 15 below it (S14)
+abbrev pub signed_most : ℕ
+signed_most = 105
+
+abbrev pub signed_least : ℕ
+signed_least = 120
+
+-- the bits of `out`: those of the float of `level_most`, and of a plain sum of eight (S15)
 abbrev pub out_most : ℕ
 out_most = 0x456F1000
+
+abbrev pub sum_most : ℕ
+sum_most = 0x46EF1000
+
+-- R11: the same of signed levels, above zero and, without the sign, below it
+abbrev pub signed_out_most : ℕ
+signed_out_most = 0x42D20000
+
+abbrev pub signed_out_least : ℕ
+signed_out_least = 0x42F00000
+
+abbrev pub signed_sum_most : ℕ
+signed_sum_most = 0x44520000
+
+abbrev pub signed_sum_least : ℕ
+signed_sum_least = 0x44700000
+
+-- the bits of negative zero: the sign alone
+abbrev pub minus_zero : ℕ
+minus_zero = 0x80000000
 
 -- ---- the registers: R9
 

@@ -2,7 +2,7 @@
 // specs/Limits.antt.
 #![tactic(auto)]
 
-// The sound: the update counter, the current channel, the sound port's address, a phase, and the bits of `out`, those of 3825.0.
+// The sound: the update counter, the current channel, the sound port's address and a phase.
 pub const UPDATE_MOST: u8 = 14;
 
 pub const CHANNEL_MOST: u8 = 7;
@@ -11,7 +11,22 @@ pub const ADDRESS_MOST: usize = 127;
 
 pub const PHASE_LIMIT: u32 = 0x0100_0000;
 
+// The bits of the greatest `out`, and, where levels are signed, those of the least without its sign: 3825.0, of a plain sum 30600.0; signed
+// 105.0 and 120.0, of a plain sum 840.0 and 960.0.
 pub const OUT_MOST: u32 = 0x456F_1000;
+
+pub const SUM_MOST: u32 = 0x46EF_1000;
+
+pub const SIGNED_OUT_MOST: u32 = 0x42D2_0000;
+
+pub const SIGNED_OUT_LEAST: u32 = 0x42F0_0000;
+
+pub const SIGNED_SUM_MOST: u32 = 0x4452_0000;
+
+pub const SIGNED_SUM_LEAST: u32 = 0x4470_0000;
+
+// The bits of negative zero: the sign alone.
+pub const MINUS_ZERO: u32 = 0x8000_0000;
 
 // A PRG bank.
 pub const BANK_MOST: u8 = 63;

@@ -44,20 +44,25 @@ fn ten_numbers(line: &[u8]) -> Option<[u64; 10]> {
     Some(n)
 }
 
-// Whether F800 protects, by an eleventh number, if there is one: the options of an image's byte.
-fn parse_options(line: &[u8]) -> Option<bool> {
-    if spaces(line) == 10 {
-        return Some(false);
+// The options of an image's byte by an eleventh number, if there is one; five bits of the byte mean nothing.
+fn parse_options(line: &[u8]) -> Option<Options> {
+    let byte = if spaces(line) == 10 {
+        0
+    } else {
+        parse_number(word(line, 11))?
+    };
+    if 0xFF < byte || byte % 32 != 0 {
+        return None;
     }
-    match parse_number(word(line, 11))? {
-        0 => Some(false),
-        0x80 => Some(true),
-        _ => None,
-    }
+    Some(Options {
+        f800_protects: byte / 128 == 1,
+        signed_levels: byte / 64 % 2 == 1,
+        plain_sum: byte / 32 % 2 == 1,
+    })
 }
 
 fn load(line: &[u8]) -> Option<Cartridge> {
-    let f800_protects = parse_options(line)?;
+    let options = parse_options(line)?;
     let [
         mapper,
         submapper,
@@ -83,7 +88,7 @@ fn load(line: &[u8]) -> Option<Cartridge> {
             chr_writable: chr_writable != 0,
             ciram,
         },
-        options: Options { f800_protects },
+        options,
     })
 }
 

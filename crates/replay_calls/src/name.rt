@@ -56,7 +56,7 @@ impl Name {
     pub fn usage(self) -> &'static str {
         match self {
             Name::Load => {
-                "load and ten numbers, the second and third up to $FF, or eleven with OPTIONS of $80 or 0"
+                "load and ten numbers, the second and third up to $FF, or eleven with OPTIONS, a sum of $80, $40 and $20, or 0"
             }
             Name::Read => "read ADDR, up to $FFFF",
             Name::Peek => "peek ADDR, up to $FFFF",

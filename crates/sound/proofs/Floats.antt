@@ -1,2 +1,3 @@
 -- Facts about f32 that the sound rests on.
+pub mod Sign
 pub mod Bits

@@ -1,4 +1,4 @@
--- R8, S12: the sound chip's state, the one that `Audio::new` makes, and a state with the named fields replaced.
+-- R8, S12, S13: the sound chip's state, the one that `Audio::new` makes, and a state with the named fields replaced.
 use Rattle.std.specs.Prelude.{ℕ, Bool, false, List, replicate}
 use Rattle.std.specs.Float.{binary32}
 use Rattle.std.specs.Float.Ieee.{of_bits}
@@ -17,6 +17,8 @@ fresh =
       channel_out = replicate 8 (of_bits binary32 0);
       out = of_bits binary32 0;
       phase_ext = replicate 8 0;
+      signed_levels = false;
+      plain_sum = false;
     }
 
 -- the sound RAM
@@ -32,6 +34,8 @@ with_ram a ram =
       channel_out = a.channel_out;
       out = a.out;
       phase_ext = a.phase_ext;
+      signed_levels = a.signed_levels;
+      plain_sum = a.plain_sum;
     }
 
 -- the address and the auto-increment flag
@@ -47,6 +51,8 @@ with_addr a addr auto =
       channel_out = a.channel_out;
       out = a.out;
       phase_ext = a.phase_ext;
+      signed_levels = a.signed_levels;
+      plain_sum = a.plain_sum;
     }
 
 -- whether the sound is disabled
@@ -62,6 +68,8 @@ with_disabled a d =
       channel_out = a.channel_out;
       out = a.out;
       phase_ext = a.phase_ext;
+      signed_levels = a.signed_levels;
+      plain_sum = a.plain_sum;
     }
 
 -- the update counter
@@ -77,6 +85,8 @@ with_counter a u =
       channel_out = a.channel_out;
       out = a.out;
       phase_ext = a.phase_ext;
+      signed_levels = a.signed_levels;
+      plain_sum = a.plain_sum;
     }
 
 -- the current channel
@@ -92,4 +102,23 @@ with_channel a k =
       channel_out = a.channel_out;
       out = a.out;
       phase_ext = a.phase_ext;
+      signed_levels = a.signed_levels;
+      plain_sum = a.plain_sum;
+    }
+
+-- S13: the choices of a load, whether levels are signed and whether they are summed plainly
+abbrev pub with_choice : Audio → Bool → Bool → Audio
+with_choice a signed plain =
+    record {
+      ram = a.ram;
+      addr = a.addr;
+      auto_increment = a.auto_increment;
+      disabled = a.disabled;
+      update_counter = a.update_counter;
+      current_channel = a.current_channel;
+      channel_out = a.channel_out;
+      out = a.out;
+      phase_ext = a.phase_ext;
+      signed_levels = signed;
+      plain_sum = plain;
     }

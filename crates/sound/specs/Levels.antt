@@ -1,11 +1,20 @@
--- Whole numbers as floats, and back. Channel outputs are such floats: S6, R9.
-use Rattle.std.specs.Prelude.{ℕ, ◌+◌, ◌-◌, ◌/◌, ◌%◌, ◌^◌, cond, ltb, pos, Float}
+-- Whole numbers as floats, and back. Channel outputs are such floats: S6, S14, R11.
+use Rattle.std.specs.Prelude.{ℕ, ◌+◌, ◌-◌, ◌/◌, ◌%◌, ◌^◌, Bool, true, false, cond, ltb, ℤ, pos, negsuc, Float}
 use Rattle.std.specs.Float.{binary32}
 use Rattle.std.specs.Float.Ieee.{of_int}
 
--- a whole number as a float
+-- a whole number of either sign as a float
+abbrev pub whole_z : ℤ → Float
+whole_z z = of_int binary32 z
+
+-- and one that is not below zero
 abbrev pub whole : ℕ → Float
-whole k = of_int binary32 (pos k)
+whole k = whole_z (pos k)
+
+-- whether a whole number is below zero
+abbrev pub is_neg : ℤ → Bool
+is_neg (pos n) = false
+is_neg (negsuc n) = true
 
 -- H1: the whole part of the float with these bits, for bits of at most those of 3825
 unfoldable pub whole_part : ℕ → ℕ

@@ -1,45 +1,85 @@
--- R9 of a sound state: as the test that N2 makes and as facts, side by side; and what the types of the fields say of every state.
+-- R9, R11 of a sound state: as the test that N2 makes and as facts, side by side; and what the types of the fields say of every state.
 -- proofs/range/Laws.antt has that the test and the facts say the same.
-use Rattle.std.specs.Prelude.{ℕ, ◌≤◌, ◌<◌, ◌≡◌, Bool, false, not, ◌&&◌, List, T, eqb, leb, ltb, get_or, length, ℤ, Float}
-use Rattle.std.specs.Float.{nan, fin, binary32}
-use Rattle.std.specs.Float.Ieee.{to_bits, is_nan, fits, le}
-use Rattle.limits.specs.Limits.{update_most, channel_most, address_most, phase_limit, level_most, out_most}
+use Rattle.std.specs.Prelude.{ℕ, suc, ◌+◌, ◌*◌, ◌%◌, ◌≤◌, ◌<◌, ◌≡◌, Bool, true, false, cond, not, ◌&&◌, ◌||◌, List, ◌⊎◌, T, eqb, leb, ltb, get_or, length, ℤ, pos, negsuc, Float}
+use Rattle.std.specs.Float.{nan, inf, fin, binary32}
+use Rattle.std.specs.Float.Ieee.{to_bits, is_nan, fits, up, down}
+use Rattle.limits.specs.Limits.{update_most, channel_most, address_most, phase_limit, minus_zero}
+use Rattle.limits.specs.Limits.{level_most, signed_most, signed_least, out_most, sum_most, signed_out_most, signed_out_least}
+use Rattle.limits.specs.Limits.{signed_sum_most, signed_sum_least}
 use Rattle.limits.specs.Every.{every}
 use Rattle.sound.specs.declared.audio.Audio.{Audio}
-use Rattle.sound.specs.Levels.{whole, whole_part}
+use Rattle.sound.specs.Levels.{whole, whole_z, whole_part}
 
--- ---- `out`: R9, no NaN, and bits of at most those of 3825; so no negative zero, whose bits are 80000000
+-- ---- R11: the ends of the ranges by the choice
 
-unfoldable pub out_ok : Float → Bool
-out_ok x = not (is_nan x) && leb (to_bits binary32 x) out_most
+-- how far levels go below zero and above it
+abbrev pub level_low : Bool → ℕ
+level_low signed = cond signed signed_least 0
 
-pub record OutInRange (x : Float) : Type 0 where
+abbrev pub level_high : Bool → ℕ
+level_high signed = cond signed signed_most level_most
+
+-- as many of them may make up `out`
+abbrev pub times_of : Bool → ℕ
+times_of plain = cond plain 8 1
+
+-- the bits of the least `out` without its sign, and those of the greatest; proofs/Floats/Bits.antt has that they are those of the levels'
+-- ends times `times_of` (`low-units`, `high-units`)
+unfoldable pub out_low : Bool → Bool → ℕ
+out_low signed plain = cond signed (cond plain signed_sum_least signed_out_least) 0
+
+unfoldable pub out_high : Bool → Bool → ℕ
+out_high signed plain = cond signed (cond plain signed_sum_most signed_out_most) (cond plain sum_most out_most)
+
+-- ---- `out`: no NaN, and bits up to those of the greatest, or behind those of negative zero up to those of the least
+
+abbrev pub bits_ok : ℕ → ℕ → ℕ → Bool
+bits_ok low high b = leb b high || (ltb minus_zero b && leb b (minus_zero + low))
+
+abbrev pub BitsIn : ℕ → ℕ → ℕ → Type 0
+BitsIn low high b = (b ≤ high) ⊎ ((minus_zero < b) × (b ≤ minus_zero + low))
+
+unfoldable pub out_ok : Bool → Bool → Float → Bool
+out_ok signed plain x = not (is_nan x) && bits_ok (out_low signed plain) (out_high signed plain) (to_bits binary32 x)
+
+pub record OutInRange (signed plain : Bool) (x : Float) : Type 0 where
   pub number : T (not (is_nan x))
-  pub bits : to_bits binary32 x ≤ out_most
+  pub bits : BitsIn (out_low signed plain) (out_high signed plain) (to_bits binary32 x)
 
--- the same as a value: finite, the sign clear, at most 3825
-pub record OutValue (x : Float) : Type 0 where
-  pub mantissa : ℕ
-  pub exponent : ℤ
-  pub is : x ≡ fin false mantissa exponent
-  pub most : T (le x (whole level_most))
+-- the same as a value: finite, from −low to high, and no negative zero
+abbrev pub OutBetween : ℕ → ℕ → Float → Type 0
+OutBetween low high nan = ⊥
+OutBetween low high (inf s) = ⊥
+OutBetween low high (fin false m e) = m * up e ≤ high * down e
+OutBetween low high (fin true m e) = (0 < m) × (m * up e ≤ low * down e)
 
--- ---- channel outputs: R9, the range of `out`, and the float of its whole part has the same bits
+abbrev pub OutValue : Bool → Bool → Float → Type 0
+OutValue signed plain = OutBetween (level_low signed * times_of plain) (level_high signed * times_of plain)
 
-unfoldable pub level_ok : Float → Bool
-level_ok x = out_ok x && eqb (to_bits binary32 (whole (whole_part (to_bits binary32 x)))) (to_bits binary32 x)
+-- ---- channel outputs: the range of an average, and the float of its size's whole part has the bits of its size
 
-pub record Level (x : Float) : Type 0 where
-  pub size : ℕ
-  pub small : size ≤ level_most
-  pub is : x ≡ whole size
+abbrev pub size_bits : Float → ℕ
+size_bits x = to_bits binary32 x % minus_zero
+
+unfoldable pub level_ok : Bool → Float → Bool
+level_ok signed x = out_ok signed false x && eqb (to_bits binary32 (whole (whole_part (size_bits x)))) (size_bits x)
+
+-- a whole number from −low to high
+abbrev pub WholeIn : ℕ → ℕ → ℤ → Type 0
+WholeIn low high (pos n) = n ≤ high
+WholeIn low high (negsuc n) = suc n ≤ low
+
+pub record Level (signed : Bool) (x : Float) : Type 0 where
+  pub number : ℤ
+  pub within : WholeIn (level_low signed) (level_high signed) number
+  pub is : x ≡ whole_z number
 
 -- the test of channel i's output, and the eight outputs
-abbrev pub output_test : List Float → ℕ → Bool
-output_test outs i = level_ok (get_or outs i nan)
+abbrev pub output_test : Bool → List Float → ℕ → Bool
+output_test signed outs i = level_ok signed (get_or outs i nan)
 
-abbrev pub Levels : List Float → Type 0
-Levels outs = (i : ℕ) → i < 8 → Level (get_or outs i nan)
+abbrev pub Levels : Bool → List Float → Type 0
+Levels signed outs = (i : ℕ) → i < 8 → Level signed (get_or outs i nan)
 
 -- ---- phases: R9, the test of channel i's phase, and all phases
 
@@ -49,7 +89,7 @@ phase_test phases i = ltb (get_or phases i 0) phase_limit
 abbrev pub Phases : List ℕ → Type 0
 Phases phases = (i : ℕ) → get_or phases i 0 < phase_limit
 
--- ---- a sound state: R9, the update counter, the channel, the address, the phases, the outputs, `out`
+-- ---- a sound state: R9, R11, the update counter, the channel, the address, the phases, the outputs, `out`
 
 unfoldable pub audio_ok : Audio → Bool
 audio_ok a =
@@ -57,16 +97,16 @@ audio_ok a =
     && (leb a.current_channel channel_most
     && (leb a.addr address_most
     && (every 8 (phase_test a.phase_ext)
-    && (every 8 (output_test a.channel_out)
-    && out_ok a.out))))
+    && (every 8 (output_test a.signed_levels a.channel_out)
+    && out_ok a.signed_levels a.plain_sum a.out))))
 
 pub record InRange (a : Audio) : Type 0 where
   pub counter : a.update_counter ≤ update_most
   pub channel : a.current_channel ≤ channel_most
   pub address : a.addr ≤ address_most
   pub phases : Phases a.phase_ext
-  pub outputs : Levels a.channel_out
-  pub mixed : OutInRange a.out
+  pub outputs : Levels a.signed_levels a.channel_out
+  pub mixed : OutInRange a.signed_levels a.plain_sum a.out
 
 -- ---- what the types of the fields say of every state: R8
 

@@ -15,6 +15,9 @@ pub struct Audio {
     pub channel_out: [f32; Audio::CHANNEL_COUNT],
     pub out: f32,
     pub phase_ext: [u32; Audio::CHANNEL_COUNT],
+    // S13: what a load chose, and every call keeps: levels with a sign, and channels summed and not averaged. The Rust has neither.
+    pub signed_levels: bool,
+    pub plain_sum: bool,
 }
 
 impl Audio {
@@ -48,6 +51,8 @@ impl Audio {
             channel_out: [0.0; Audio::CHANNEL_COUNT],
             out: 0.0,
             phase_ext: [0; Audio::CHANNEL_COUNT],
+            signed_levels: false,
+            plain_sum: false,
         }
     }
 }

@@ -1,3 +1,3 @@
--- An update, a clock and a run keep a state typed and in range, and no sample is a NaN.
+-- An update, a clock and a run keep a state typed and in range, and no sample is a NaN or negative zero.
 pub mod Clock
 pub mod Run

@@ -1,14 +1,14 @@
--- Worked values at edges of S2 to S11 and C2. Each line has what a definition gives and what it has to be. The cases of T are
+-- Worked values at edges of S2 to S15 and C2. Each line has what a definition gives and what it has to be. The cases of T are
 -- in crates/thm_machine/specs/Cases.antt.
-use Rattle.std.specs.Prelude.{ℕ, Bool, true, ◌&&◌, List, [], ◌∷◌, map, eqb, length, get_or, set, replicate}
+use Rattle.std.specs.Prelude.{ℕ, ◌-◌, Bool, true, false, ◌&&◌, List, [], ◌∷◌, ◌++◌, map, eqb, length, get_or, set, replicate, ℤ, pos, negsuc}
 use Rattle.std.specs.Float.{binary32}
 use Rattle.std.specs.Float.Ieee.{of_bits, to_bits}
 use Rattle.limits.specs.Limits.{out_most}
 use Rattle.sound.specs.declared.audio.Audio.{Audio}
-use Rattle.sound.specs.Audio.{fresh, with_ram}
+use Rattle.sound.specs.Audio.{fresh, with_ram, with_choice}
 use Rattle.sound.specs.Registers.{peeked, read_of, written}
-use Rattle.sound_wave.specs.Channel.{next_phase, nibble_at}
-use Rattle.sound.specs.Levels.{whole}
+use Rattle.sound_wave.specs.Channel.{next_phase, nibble_at, level_by}
+use Rattle.sound.specs.Levels.{whole, whole_z}
 use Rattle.sound_wave.specs.Mix.{mix_of, output_of}
 use Rattle.sound_clock.specs.Clock.{next_channel}
 use Rattle.sound_clock.specs.Run.{sound_run, samples_of}
@@ -20,7 +20,7 @@ right ((got, want) ∷ rest) = eqb got want && right rest
 
 -- the bits of `out` for outputs of channels 0..=7 that are whole numbers
 abbrev pub out_bits : ℕ → List ℕ → ℕ
-out_bits c ks = to_bits binary32 (mix_of (map whole ks) c)
+out_bits c ks = to_bits binary32 (mix_of (map whole ks) c false)
 
 -- the bits of a sample for the bits of `out`
 abbrev pub output_bits : ℕ → ℕ
@@ -45,6 +45,52 @@ mixes =
     ∷ (output_bits 0x3EAAAAAB, 0x380BCF65) ∷ (output_bits 0x3E124925, 0x376FACAD) ∷ (output_bits 0x42D20000, 0x3C2C0831)
     ∷ (output_bits 0x45688000, 0x3EBE76C8) ∷ (output_bits out_most, 0x3EC3D70A)
     ∷ []
+
+-- S14: the bits of signed outputs at a nibble and a volume: −120, −15, 0, 105, −1, and 0 at volume 0
+abbrev pub level_bits : ℕ → ℕ → ℕ
+level_bits nibble volume = to_bits binary32 (whole_z (level_by true nibble volume))
+
+abbrev pub signed_levels : List (ℕ × ℕ)
+signed_levels =
+    (level_bits 0 15, 0xC2F00000) ∷ (level_bits 7 15, 0xC1700000) ∷ (level_bits 8 15, 0) ∷ (level_bits 15 15, 0x42D20000)
+    ∷ (level_bits 7 1, 0xBF800000) ∷ (level_bits 0 0, 0) ∷ (level_bits 4 0, 0)
+    ∷ []
+
+-- S7, S15: the bits of plain sum and average for the outputs of channels 7 − c up to 7
+abbrev pub both_bits : List ℤ → ℕ → ℕ → List (ℕ × ℕ)
+both_bits zs sum mean =
+    let c = length zs - 1 in
+    let outs = map whole_z (replicate (7 - c) (pos 9) ++ zs) in
+    (to_bits binary32 (mix_of outs c true), sum) ∷ (to_bits binary32 (mix_of outs c false), mean) ∷ []
+
+abbrev pub signed_mixes : List (ℕ × ℕ)
+signed_mixes =
+    both_bits (negsuc 0 ∷ pos 0 ∷ pos 0 ∷ []) 0xBF800000 0xBEAAAAAB
+    ++ both_bits (negsuc 119 ∷ pos 105 ∷ pos 15 ∷ []) 0 0
+    ++ both_bits (pos 105 ∷ negsuc 104 ∷ []) 0 0
+    ++ both_bits (negsuc 0 ∷ replicate 6 (pos 0)) 0xBF800000 0xBE124925
+    ++ both_bits (replicate 6 (pos 105) ++ (pos 104 ∷ [])) 0x44378000 0x42D1B6DB
+    ++ both_bits (replicate 4 (negsuc 119) ++ (pos 105 ∷ [])) 0xC3BB8000 0xC2960000
+    ++ both_bits (replicate 8 (negsuc 119)) 0xC4700000 0xC2F00000
+    ++ both_bits (replicate 8 (pos 105)) 0x44520000 0x42D20000
+    ++ both_bits (replicate 8 (pos 3825)) 0x46EF1000 0x456F1000
+
+-- S13: 45 clocks of two channels at volume 15, channel 7 at nibble 0 and channel 6 at nibble F, in each choice
+abbrev pub duet : Bool → Bool → Audio
+duet signed plain =
+    with_choice (with_ram fresh (set (set (set (set (replicate 128 0) 0x00 0xF0) 0x7F 0x1F) 0x76 0x01) 0x77 0x0F)) signed plain
+
+abbrev pub three_samples : Audio → ℕ → ℕ → ℕ → List (ℕ × ℕ)
+three_samples a x y z =
+    let xs = map (to_bits binary32) (samples_of 45 a) in
+    (length xs, 3) ∷ (get_or xs 0 0, x) ∷ (get_or xs 1 0, y) ∷ (get_or xs 2 0, z) ∷ []
+
+abbrev pub duets : List (ℕ × ℕ)
+duets =
+    three_samples (duet false false) 0x3E3E76C8 0x3E43D70A 0x3E43D70A
+    ++ three_samples (duet true false) 0xBBC49BA6 0xBA449BA6 0xBA449BA6
+    ++ three_samples (duet false true) 0x3EBE76C8 0x3EC3D70A 0x3EC3D70A
+    ++ three_samples (duet true true) 0xBC449BA6 0xBAC49BA6 0xBAC49BA6
 
 -- S4: phases at length 4 and frequency 3FFFF, and one that lies behind the end of the wave
 abbrev pub phases : List (ℕ × ℕ)

@@ -2,20 +2,19 @@
 use Rattle.std.specs.Prelude.{ℕ, ◌+◌, ◌-◌, cond, List, [], ◌∷◌, eqb, ltb, get_or, set, Float}
 use Rattle.sound.specs.declared.audio.Audio.{Audio}
 use Rattle.sound.specs.Audio.{with_counter, with_channel}
-use Rattle.sound_wave.specs.Channel.{channel_count, base_addr, next_phase, level_at}
-use Rattle.sound.specs.Levels.{whole}
+use Rattle.sound_wave.specs.Channel.{channel_count, base_addr, next_phase, output_at}
 use Rattle.sound_wave.specs.Mix.{mix_of, output_of}
 
 -- S2: the channel after k; k − 1 is less than 7 − c where k + c is less than 8
 unfoldable pub next_channel : ℕ → ℕ → ℕ
 next_channel k c = cond (ltb (k + c) 8) 7 (k - 1)
 
--- S4 to S7: the current channel's update, its phase, its output by the new phase, and `out` by the new outputs
+-- S4 to S7, S14, S15: the current channel's update, its phase, its output by the new phase, and `out` by the new outputs
 unfoldable pub update_channel : Audio → Audio
 update_channel a =
     let k = a.current_channel in
     let phase = next_phase a.ram (base_addr k) (get_or a.phase_ext k 0) in
-    let outs = set a.channel_out k (whole (level_at a.ram (base_addr k) phase)) in
+    let outs = set a.channel_out k (output_at a.ram (base_addr k) phase a.signed_levels) in
     record {
       ram = a.ram;
       addr = a.addr;
@@ -24,8 +23,10 @@ update_channel a =
       update_counter = a.update_counter;
       current_channel = k;
       channel_out = outs;
-      out = mix_of outs (channel_count a.ram);
+      out = mix_of outs (channel_count a.ram) a.plain_sum;
       phase_ext = set a.phase_ext k phase;
+      signed_levels = a.signed_levels;
+      plain_sum = a.plain_sum;
     }
 
 -- C2: the update, and the turn of the next channel

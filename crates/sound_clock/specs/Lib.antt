@@ -1,3 +1,4 @@
 pub mod Clock
 pub mod Run
+pub mod Exact
 pub mod Cases

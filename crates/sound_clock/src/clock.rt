@@ -28,9 +28,9 @@ pub fn update_channel(a: &mut Audio)
         base: base_addr(k),
     };
     let phase = channel.next_phase(a.phase_ext[k]);
-    let level = channel.level_at(phase);
-    a.channel_out[k] = f32::from(level);
-    a.out = mix::mix(&a.channel_out, channel_count(&a.ram));
+    let output = channel.output_at(phase, a.signed_levels);
+    a.channel_out[k] = output;
+    a.out = mix::mix(&a.channel_out, channel_count(&a.ram), a.plain_sum);
     a.phase_ext[k] = phase;
 }
 

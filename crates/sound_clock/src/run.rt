@@ -33,10 +33,10 @@ pub fn run(a: &mut Audio, n: u32, samples: &mut [f32]) -> usize
             base: base_addr(k),
         };
         let phase = channel.next_phase(a.phase_ext[k]);
-        let level = f32::from(channel.level_at(phase));
-        sum = mix::resum(sum, a.channel_out[k], level, ch, c);
-        a.channel_out[k] = level;
-        a.out = mix::mean(sum, c);
+        let output = channel.output_at(phase, a.signed_levels);
+        sum = mix::resum(sum, a.channel_out[k], output, ch, c);
+        a.channel_out[k] = output;
+        a.out = mix::mixed(sum, c, a.plain_sum);
         a.phase_ext[k] = phase;
         a.current_channel = clock::next_channel(ch, c);
         *sample = mix::output(a.out);

@@ -1,3 +1,3 @@
 -- Facts about f32 that the mix rests on.
 pub mod Whole
-pub mod Sign
+pub mod Zero

@@ -1,3 +1,3 @@
--- A channel's phase stays below 2 ^ 24 and its level in 0..=3825; the mix of eight such levels is in 0..=3825.
+-- A channel's phase stays below 2 ^ 24 and its level in the range of the choice; so does the mix of eight such levels.
 pub mod Channel
 pub mod Mix

@@ -1,5 +1,6 @@
--- S2 to S6: a channel's registers and its update. `ram` is the sound RAM, `base` where a channel's registers start.
-use Rattle.std.specs.Prelude.{ℕ, ◌+◌, ◌-◌, ◌*◌, ◌/◌, ◌%◌, cond, List, ◌==◌, slice_index}
+-- S2 to S6, S14: a channel's registers and its update. `ram` is the sound RAM, `base` where a channel's registers start.
+use Rattle.std.specs.Prelude.{ℕ, ◌+◌, ◌-◌, ◌*◌, ◌/◌, ◌%◌, Bool, cond, List, ℤ, pos, ◌-ℤ◌, ◌*ℤ◌, ◌==◌, slice_index, Float}
+use Rattle.sound.specs.Levels.{whole_z}
 
 -- S2: c, one less than the number of channels in use (the Rust's `channel_count`)
 abbrev pub channel_count : List ℕ → ℕ
@@ -41,6 +42,19 @@ next_phase ram base phase = (phase + frequency_at ram base) % (wave_length_at ra
 abbrev pub level_of : ℕ → ℕ → ℕ
 level_of nibble volume = (nibble + 248) % 256 * volume
 
--- S5, S6: the level at a phase, at the channel's volume
-unfoldable pub level_at : List ℕ → ℕ → ℕ → ℕ
-level_at ram base phase = level_of (nibble_at ram ((phase / 65536 + wave_address_at ram base) % 256)) (volume_at ram base)
+-- S14: the nibble less 8, at a volume, as a whole number
+unfoldable pub signed_of : ℕ → ℕ → ℤ
+signed_of nibble volume = (pos nibble -ℤ pos 8) *ℤ pos volume
+
+-- S13: the level by the choice
+abbrev pub level_by : Bool → ℕ → ℕ → ℤ
+level_by signed nibble volume = cond signed (signed_of nibble volume) (pos (level_of nibble volume))
+
+-- S5, S6, S14: the level at a phase, at the channel's volume
+unfoldable pub level_at : List ℕ → ℕ → ℕ → Bool → ℤ
+level_at ram base phase signed =
+    level_by signed (nibble_at ram ((phase / 65536 + wave_address_at ram base) % 256)) (volume_at ram base)
+
+-- S6, S14: the channel's output, the float of that whole number
+abbrev pub output_at : List ℕ → ℕ → ℕ → Bool → Float
+output_at ram base phase signed = whole_z (level_at ram base phase signed)

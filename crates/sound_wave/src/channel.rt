@@ -1,15 +1,19 @@
-// A channel's registers in the sound RAM, its phase and its level.
+// A channel's registers in the sound RAM, its phase and its output.
 
 ghost use Rattle.std.specs.Prelude.{◌≡◌, ◌%◌, ◌<◌, ◌≤◌};
 ghost use Rattle.limits.specs.Limits.{level_most, phase_limit};
+ghost use Rattle.sound.specs.Levels.{whole_z};
+ghost use Rattle.sound.specs.Range.{Level};
 ghost use Rattle.sound_wave.specs.Channel.{
   base_addr,
   channel_count,
   frequency_at,
-  level_at,
+  level_by,
   level_of,
   next_phase,
   nibble_at,
+  output_at,
+  signed_of,
   volume_at,
   wave_address_at,
   wave_length_at,
@@ -35,18 +39,40 @@ pub fn base_addr(k: usize) -> usize
 // S5: the nibble at a nibble address, in the high half of its byte for an odd one.
 #[tactic(auto, unfolding(crate::specs::Channel::nibble_at))]
 pub fn nibble(ram: &[u8; Audio::RAM_SIZE], at: u8) -> u8
-    ensures { result ≡ nibble_at ram.now at }
+    ensures { (result ≡ nibble_at ram.now at) × (result < 16) }
 {
     let byte = ram[usize::from(at / 2)];
     if at % 2 == 1 { byte / 16 } else { byte % 16 }
 }
 
 // S6: a nibble less 8, as a byte that wraps, times a volume.
-pub fn level(nibble: u8, volume: u8) -> u16
+fn level(nibble: u8, volume: u8) -> u16
     requires { volume < 16 }
     ensures { (result ≡ level_of nibble volume) × (result ≤ level_most) }
 {
     u16::from(nibble.wrapping_sub(8)) * u16::from(volume)
+}
+
+// S14: a nibble less 8, times a volume.
+#[tactic(auto, unfolding(crate::specs::Channel::signed_of))]
+fn signed_level(nibble: u8, volume: u8) -> i16
+    requires { volume < 16 }
+    ensures { result ≡ signed_of nibble volume }
+{
+    (i16::from(nibble) - 8) * i16::from(volume)
+}
+
+// S13: the output of a nibble and a volume by the choice: the level, a whole number, and only then a float, so that a level of 0 is never
+// negative zero (S16).
+fn output_by(nibble: u8, volume: u8, signed: bool) -> f32
+    requires { volume < 16 }
+    ensures { result ≡ whole_z (level_by signed nibble volume) }
+{
+    if signed {
+        f32::from(signed_level(nibble, volume))
+    } else {
+        f32::from(level(nibble, volume))
+    }
 }
 
 // `x` modulo `end`. A step is at most the shortest wave, so one subtraction does unless the wave was shortened; a division is slow.
@@ -109,13 +135,12 @@ impl<'a> Channel<'a> {
         reduce(phase + self.frequency(), self.wave_length() * 65536)
     }
 
-    // The level of a channel at a phase.
-    #[tactic(auto, unfolding(crate::specs::Channel::level_at))]
-    pub fn level_at(self, phase: u32) -> u16
+    // The output of a channel at a phase.
+    pub fn output_at(self, phase: u32, signed: bool) -> f32
         requires { phase < phase_limit }
-        ensures { (result ≡ level_at self.entry.ram.now self.entry.base phase) × (result ≤ level_most) }
+        ensures { (result ≡ output_at self.entry.ram.now self.entry.base phase signed) × Level signed result }
     {
         let at = (phase / 65536 + self.wave_address()) % 256;
-        level(nibble(self.ram, at as u8), self.volume())
+        output_by(nibble(self.ram, at as u8), self.volume(), signed)
     }
 }

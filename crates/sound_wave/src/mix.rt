@@ -1,7 +1,7 @@
 // From channel outputs to one sample. `c` is one less than the number of channels in use.
 
 ghost use Rattle.std.specs.Prelude.{◌≡◌, ◌+◌, nat_le};
-ghost use Rattle.sound_wave.specs.Mix.{mean_of, mix_of, output_of, resum_of, sum_of};
+ghost use Rattle.sound_wave.specs.Mix.{mean_of, mix_of, mixed_of, output_of, resum_of, sum_of};
 
 use sound::audio::Audio;
 
@@ -18,18 +18,25 @@ pub fn sum(outs: &[f32; Audio::CHANNEL_COUNT], c: u8) -> f32
 }
 
 // A sum divided by the number of channels in it.
-pub fn mean(sum: f32, c: u8) -> f32
+fn mean(sum: f32, c: u8) -> f32
     ensures { result ≡ mean_of sum c }
 {
     sum / ((u16::from(c) + 1) as f32)
 }
 
-// S7: the mean of the channels in use. The chip itself puts them out one after the other (W21).
-#[tactic(auto, unfolding(crate::specs::Mix::mix_of))]
-pub fn mix(outs: &[f32; Audio::CHANNEL_COUNT], c: u8) -> f32
-    ensures { result ≡ mix_of outs.now c }
+// S13: `out` of a sum: the sum itself (S15), or the mean of the channels in use (S7). The chip puts them out one after the other (W21).
+pub fn mixed(sum: f32, c: u8, plain: bool) -> f32
+    ensures { result ≡ mixed_of sum c plain }
 {
-    mean(sum(outs, c), c)
+    if plain { sum } else { mean(sum, c) }
+}
+
+// S7, S15: `out` of the channel outputs.
+#[tactic(auto, unfolding(crate::specs::Mix::mix_of))]
+pub fn mix(outs: &[f32; Audio::CHANNEL_COUNT], c: u8, plain: bool) -> f32
+    ensures { result ≡ mix_of outs.now c plain }
+{
+    mixed(sum(outs, c), c, plain)
 }
 
 // The sum after channel `k` changes: outputs are whole numbers, so one difference gives the bits that adding all of them would.

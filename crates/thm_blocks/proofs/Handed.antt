@@ -25,7 +25,7 @@ use Rattle.handed.proofs.Handed as Any-proofs
 use Rattle.thm_machine.specs.Calls.{Held, Other, cpu_read, cpu_peek, cpu_write, chr_read, chr_write, fill, region_peek, region_write, sram}
 use Rattle.thm_machine.specs.Calls.{reset, sync_battery, restore_battery, write_image}
 use Rattle.board_chip.specs.Load.{chip_at_load}
-use Rattle.call_load.specs.Cartridge.{memory_at_load, fresh_state}
+use Rattle.call_load.specs.Cartridge.{chosen, memory_at_load, fresh_state}
 use Rattle.thm_machine.specs.Start.{Loaded, loaded}
 use Rattle.thm_machine.proofs.Start.{load-starts}
 use Rattle.thm_range.proofs.Calls.{memory-load}
@@ -298,7 +298,7 @@ fresh-typed : (l : Loaded) → Typed (fresh l)
 unfolding fresh_state
 fresh-typed l =
     subst (λ (h : Held). MemoryTyped h.state.memory) (sym (load-starts l))
-    ((remap-banks-kept l.options.f800_protects (chip_at_load l.mapper l.submapper l.flags l.known)
+    ((remap-banks-kept l.options.f800_protects (chosen (chip_at_load l.mapper l.submapper l.flags l.known) l.options)
     (memory_at_load l.mapper l.sizes)).typed (memory-load l.mapper l.sizes))
 
 pub handed-out-from-load : (l : Loaded) (calls : List (Call Float BlockCall)) → AllTyped NumberTyped calls → (a n k : ℕ)

@@ -112,7 +112,7 @@ keeps-base (write_image buffer) h = hands_on (write_image buffer) h refl refl
 
 -- ---- registering and looking up
 
-keeps-block : (a : BlockCall) (h : HeldBlocks) → block_gives a h ≡ other_of block_paper a h
+pub keeps-block : (a : BlockCall) (h : HeldBlocks) → block_gives a h ≡ other_of block_paper a h
 unfolding block_gives block_checks block_answers first_of register_refusal registered lookup_gives
 keeps-block (base a) h = keeps-base a h
 keeps-block (register start len number) h =

@@ -3,3 +3,4 @@ pub mod Demand3
 pub mod Lawful
 pub mod Cause
 pub mod Handed
+pub mod Always

@@ -21,6 +21,13 @@ NumberTyped (other (base a)) = Unit {0}
 NumberTyped (other (register start len number)) = number < 2 ^ 32
 NumberTyped (other (lookup start)) = Unit {0}
 
+-- C12: what is said of the calls without a directory, of a list with one
+abbrev pub Inner : (Call Float Other → Type 0) → Call Float BlockCall → Type 0
+Inner T (run n lent) = T (run n lent)
+Inner T (other (base a)) = T (other a)
+Inner T (other (register start len number)) = Unit {0}
+Inner T (other (lookup start)) = Unit {0}
+
 -- C19: the answer of an accepted call: as without a directory, the length and number that a lookup hands out, or that it finds none
 pub data BlockAnswer : Type 0 where
   base : Answer → BlockAnswer

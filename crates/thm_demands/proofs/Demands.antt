@@ -1,7 +1,7 @@
 -- What is promised, as theorems, for a reader who opens one file: each statement is over definitions of specs/, and its proof cites where
 -- it is shown. The public calls are contracted by the same definitions (crates/call_*/src, crates/image_*/src, crates/host/src) and have no
 -- `requires`; only functions beside them have one, as the variants `.._known` for a state that is known to be in range.
-use Prim.Native.Nat.{ℕ, ◌+◌, ◌^◌, ◌≤◌, ◌<◌}
+use Prim.Native.Nat.{ℕ, ◌+◌, ◌-◌, ◌^◌, ◌≤◌, ◌<◌}
 use mathlib.Core.Path.{◌≡◌, refl}
 use mathlib.Core.Bool.{Bool, true, false, not, ◌&&◌}
 use mathlib.Core.List.{List, [], ◌∷◌, ◌++◌}
@@ -15,6 +15,8 @@ use Rattle.cut.specs.Machine.{machine}
 use Rattle.memory.specs.declared.Memory.{Memory}
 use Rattle.memory.specs.declared.layout.MemoryLayout.{MemoryLayout}
 use Rattle.memory.specs.Range.{MemoryTyped, Bytes}
+use Rattle.sound_wave.specs.Channel.{level_at}
+use Rattle.sound_clock.specs.Exact.{UpdateExact}
 use Rattle.board_chip.specs.declared.namco163.Board.{Board}
 use Rattle.board_chip.specs.declared.namco163.Namco163.{Namco163}
 use Rattle.board_chip.specs.Load.{mirroring_at_load}
@@ -25,7 +27,7 @@ use Rattle.board_protection.specs.Protection.{remap_banks, remaps_in, FlagsAlone
 use Rattle.board_protection.proofs.Laws.{flags-alone, old-tables, old-writes, other-tables, other-writes}
 use Rattle.board_state.specs.declared.Options.{Options}
 use Rattle.board_state.specs.declared.State.{State}
-use Rattle.board_state.specs.State.{Known}
+use Rattle.board_state.specs.State.{options_in, Known}
 use Rattle.call_refusals.specs.Refusals.{first_of, kind_check}
 use Rattle.call_idle.specs.Idle.{idle, counted}
 use Rattle.call_run.specs.Clock.{state_clock}
@@ -49,7 +51,9 @@ use Rattle.thm_machine.specs.Counter.{counter_of, line_of, NoneTouches}
 use Rattle.thm_machine.proofs.Demand3 as Machine
 use Rattle.thm_range.specs.Fit.{Fit}
 use Rattle.thm_range.proofs.Lists.{always-fit, never-2-or-7}
+use Rattle.thm_range.specs.Zero.{NeverMinusZero}
 use Rattle.thm_range.proofs.Options.{always-options}
+use Rattle.thm_range.proofs.Zero.{never-minus-zero, next-update-exact}
 use Rattle.thm_range.proofs.Refused.{other-refused}
 use Rattle.thm_steps.proofs.Banking.{update-banks-kept}
 use Rattle.idle_runs.specs.Idle.{Still, Least}
@@ -58,12 +62,13 @@ use Rattle.directory.specs.Fit.{fit}
 use Rattle.directory.specs.Calls.{register_refusal, registered}
 use Rattle.call_blocks.specs.Blocks.{directory_check, register_checks, lookup_checks, emptied}
 use Rattle.handed.specs.Handed as Blocks
-use Rattle.thm_blocks.specs.Calls.{HeldBlocks, BlockCall, base, NumberTyped}
+use Rattle.thm_blocks.specs.Calls.{HeldBlocks, BlockCall, base, NumberTyped, Inner}
 use Rattle.thm_blocks.specs.Board.{block_board}
 use Rattle.thm_blocks.specs.Paper.{block_paper}
 use Rattle.thm_blocks.specs.Cause.{word, accepted, Cause}
 use Rattle.thm_blocks.specs.Handed.{after as after_all, Typed, HandsOut, Since, Spared}
 use Rattle.thm_blocks.proofs.Demand3.{block-as-machine, block-cut-blind}
+use Rattle.thm_blocks.proofs.Always.{block-always-fit, block-always-options, block-never-minus-zero}
 use Rattle.thm_blocks.proofs.Handed.{fresh as with_directory, handed-out-from-load, spared, cause-drops}
 use Rattle.thm_settled.specs.Settled.{StaysSettled, StaysDetecting, StaysFixed, SettledFromLoad, TypeOfLoad}
 use Rattle.thm_settled.proofs.Settled.{stays-settled, stays-detecting, stays-fixed, settled-from-load, type-of-load}
@@ -76,7 +81,9 @@ use Rattle.thm_editions.proofs.Editions.{chips-alike}
 use Rattle.thm_wiki.specs.Notes.{start as fresh}
 use Rattle.thm_wiki.specs.Lists.{beside, Plain}
 use Rattle.thm_wiki.specs.Agrees.{Agrees163, Agrees175, Agrees340}
+use Rattle.thm_wiki.specs.Sound.{wiki_output}
 use Rattle.thm_wiki.specs.Protection.{at_load, protect_in, MeetsPage}
+use Rattle.thm_wiki.proofs.Channel.{signed-level-agrees}
 use Rattle.thm_wiki.proofs.Agrees163.{agrees-163}
 use Rattle.thm_wiki.proofs.Agrees210.{agrees-175, agrees-340}
 use Rattle.thm_wiki.proofs.Protection.{protected-163}
@@ -189,12 +196,29 @@ type-fixed = stays-fixed
 pub type-at-load : TypeOfLoad
 type-at-load = type-of-load
 
--- ---- L19 to L21: the options are the load's after every list of calls; where F800 does not protect, page tables are made by the Rust's
--- rules and when the Rust makes them, and so on a board that is no 163; on a 163 they differ in flags of work RAM alone (W12: D2.2)
+-- ---- L19, S17: the options are the load's after every list of calls, resets of both kinds and battery restores among them
 
-pub options-kept : (l : Loaded) (calls : List (Call Float Other))
-    → (observed board calls (loaded l)).state.state.f800_protects ≡ l.options.f800_protects
+pub options-kept : (l : Loaded) (calls : List (Call Float Other)) → options_in (observed board calls (loaded l)).state.state ≡ l.options
 options-kept = always-options
+
+-- ---- S7, S14 to S16: at the end of every list, the outputs that the next update makes are whole numbers, no sum of them rounds, and `out`
+-- is that of their exact sum
+
+pub exact-out : (l : Loaded) → l.submapper < 2 ^ 8 → (calls : List (Call Float Other)) → AllTyped CallTyped calls
+    → UpdateExact (observed board calls (loaded l)).state.state.chip.audio
+exact-out = next-update-exact
+
+-- S16: no output, `out` or sample is negative zero
+pub no-negative-zero : (l : Loaded) → l.submapper < 2 ^ 8 → (calls : List (Call Float Other)) → AllTyped CallTyped calls
+    → let o = observed board calls (loaded l) in NeverMinusZero o.state.state.chip.audio o.trace
+no-negative-zero = never-minus-zero
+
+-- S14: where levels are signed, a channel's level is the wiki's, of every RAM, channel and phase (W20)
+pub signed-level-of-the-page : (ram : List ℕ) (base phase : ℕ) → level_at ram base phase true ≡ wiki_output ram base phase
+signed-level-of-the-page = signed-level-agrees
+
+-- ---- L19 to L21: where F800 does not protect, page tables are made by the Rust's
+-- rules and when the Rust makes them, and so on a board that is no 163; on a 163 they differ in flags of work RAM alone (W12: D2.2)
 
 pub old-edition : (n : Namco163) (m : Memory) (old new : Board) (a : ℕ)
     → (remap_banks false n m ≡ update_banks n m) × (remaps_in false old new a ≡ remaps old new a)
@@ -293,6 +317,20 @@ pub demand-3-blocks-cutting : (calls others : List (Call Float BlockCall)) (h : 
     → ((observed block_board calls h).trace ≡ (observed block_board others h).trace)
     × ((observed block_board calls h).state ≡ (observed block_board others h).state)
 demand-3-blocks-cutting = block-cut-blind
+
+-- R9, N2, N7, S16, S17: range, zeros and options of lists with a directory
+
+pub blocks-in-range : (l : Loaded) → l.submapper < 2 ^ 8 → (calls : List (Call Float BlockCall)) → AllTyped (Inner CallTyped) calls
+    → Fit (observed block_board calls (with_directory l)).state.held
+blocks-in-range = block-always-fit
+
+pub blocks-no-negative-zero : (l : Loaded) → l.submapper < 2 ^ 8 → (calls : List (Call Float BlockCall)) → AllTyped (Inner CallTyped) calls
+    → let o = observed block_board calls (with_directory l) in NeverMinusZero o.state.held.state.chip.audio o.trace
+blocks-no-negative-zero = block-never-minus-zero
+
+pub blocks-options-kept : (l : Loaded) (calls : List (Call Float BlockCall))
+    → options_in (observed block_board calls (with_directory l)).state.held.state ≡ l.options
+blocks-options-kept = block-always-options
 
 -- ---- H3: what is written is read back, and what is read is written back
 

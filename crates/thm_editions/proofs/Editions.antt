@@ -2,7 +2,7 @@
 -- battery reserve, which is all of them that a register is ever made of: no entry shows a byte of it, so no store of CPU or PPU reaches it.
 use Prim.Native.Nat.{ℕ, zero, suc, ◌+◌, ◌-◌, ◌/◌, ◌%◌, ◌^◌, ◌≤◌, ◌<◌}
 use mathlib.Core.Path.{◌≡◌, refl, sym, ap, subst, ◌∙◌}
-use mathlib.Core.Bool.{true, cond}
+use mathlib.Core.Bool.{Bool, true, cond}
 use mathlib.Core.List.{List, [], ◌∷◌}
 use mathlib.Core.Logic.{inl, inr}
 use mathlib.Core.Option.{Option, some, none}
@@ -40,14 +40,13 @@ use Rattle.board_chip.specs.Reset.{reset_chip}
 use Rattle.sound.specs.Audio.{with_ram}
 use Rattle.board_chip.specs.Namco163.{is163, with_audio}
 use Rattle.board_registers.specs.Writes.{write_chip}
-use Rattle.board_protection.specs.Protection.{remaps_in}
-use Rattle.board_state.specs.declared.Options.{Options}
+use Rattle.board_protection.specs.Protection.{remap_banks, remaps_in}
 use Rattle.board_state.specs.declared.State.{State}
 use Rattle.board_state.specs.State.{in_range, with_chip}
 use Rattle.board_state.proofs.Range.{known-passes}
 use Rattle.call_battery.specs.Battery.{battery_bytes}
 use Rattle.call_cpu.specs.Calls.{write_register}
-use Rattle.call_load.specs.Cartridge.{memory_at_load, fresh_state}
+use Rattle.call_load.specs.Cartridge.{chosen, memory_at_load, fresh_state}
 use Rattle.call_load.proofs.Laws.{load-good}
 use Rattle.call_refusals.specs.Refusals.{first_of, battery_checks}
 use Rattle.call_refusals.proofs.Laws.{accepted-none, fill-good, battery-good, backed}
@@ -66,7 +65,7 @@ use Rattle.thm_steps.proofs.Banking.{Kept, kept_self}
 use Rattle.thm_steps.proofs.Protection.{remap-banks-kept}
 use Rattle.thm_range.specs.Fit.{Fit}
 use Rattle.thm_range.proofs.Calls.{by_answer, other_fits, run_fits, run-memory, load_fits, ranged-load}
-use Rattle.thm_editions.specs.Editions.{with_options, ChipsAlike}
+use Rattle.thm_editions.specs.Editions.{in_edition, ChipsAlike}
 use Rattle.thm_editions.proofs.Outside.{reserve_at, reserve_end, Outside, TablesOutside, remap-banks-outside, new-outside}
 
 -- ---- one edition: fit, and no entry shows the reserve
@@ -460,20 +459,20 @@ load-outside l =
     let g = load-good l.mapper l.sizes (length l.arena) l.accepted in
     let z = new-outside l.sizes g.fits.within in
     subst (λ (h : Held). TablesOutside h.state.memory) (sym (load-starts l))
-    (remap-banks-outside l.options.f800_protects (chip_at_load l.mapper l.submapper l.flags l.known)
+    (remap-banks-outside l.options.f800_protects (chosen (chip_at_load l.mapper l.submapper l.flags l.known) l.options)
     (memory_at_load l.mapper l.sizes) (ranged-load l.mapper l.sizes g.fits) (record { prg = z.prg; chr = z.chr }))
 
 load-solo : (l : Loaded) → l.submapper < 2 ^ 8 → Solo (loaded l)
 load-solo l sub = record { fit = load_fits l sub; outside = load-outside l }
 
-load_same : (l : Loaded) (o : Options) → Same (loaded l) (loaded (with_options l o))
+load_same : (l : Loaded) (protects : Bool) → Same (loaded l) (loaded (in_edition l protects))
 unfolding fresh_state
-load_same l o =
-    let n = chip_at_load l.mapper l.submapper l.flags l.known in
+load_same l protects =
+    let n = chosen (chip_at_load l.mapper l.submapper l.flags l.known) l.options in
     let m = memory_at_load l.mapper l.sizes in
     let a = remap-banks-kept l.options.f800_protects n m in
-    let b = remap-banks-kept o.f800_protects n m in
-    rw (load-starts l, load-starts (with_options l o))
+    let b = remap-banks-kept protects n m in
+    rw (load-starts l, load-starts (in_edition l protects))
     (record {
       chip = refl;
       layout = b.layout ∙ sym a.layout;
@@ -482,6 +481,6 @@ load_same l o =
     })
 
 pub chips-alike : ChipsAlike
-chips-alike l o sub calls t =
-    (along calls (start (loaded l)) (start (loaded (with_options l o))) t (load-solo l sub) (load-solo (with_options l o) sub) (load_same l o)
-    ).chip
+chips-alike l protects sub calls t =
+    let other = in_edition l protects in
+    (along calls (start (loaded l)) (start (loaded other)) t (load-solo l sub) (load-solo other sub) (load_same l protects)).chip

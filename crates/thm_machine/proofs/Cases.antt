@@ -13,10 +13,10 @@ use Rattle.memory_map.specs.Windows.{map_chr, unmap_prg, set_prg_writable}
 use Rattle.memory_map.specs.Mirroring.{nametable_page, mirror_pages, set_mirroring}
 use Rattle.memory_map.specs.New.{unmapped_memory, new_memory}
 use Rattle.sound.specs.Levels.{whole_part}
-use Rattle.sound.specs.Range.{out_ok, level_ok, audio_ok}
+use Rattle.sound.specs.Range.{out_low, out_high, out_ok, level_ok, audio_ok}
 use Rattle.sound.specs.Registers.{advanced, written}
 use Rattle.sound_wave.specs.Channel.{nibble_at, next_phase, level_at}
-use Rattle.sound_wave.specs.Mix.{sum_from, total, sum_of, mix_of, output_of}
+use Rattle.sound_wave.specs.Mix.{sum_from, sum_of, mix_of, output_of}
 use Rattle.sound_clock.specs.Cases.{right}
 use Rattle.sound_clock.specs.Clock.{next_channel, update_channel, updated, sound_clock}
 use Rattle.board_chip.specs.Namco163.{is163}
@@ -46,8 +46,8 @@ pub cases : right table ≡ true
 unfolding right table every within_limits layout_of arena_order pages_before pages_of_all first_page arena_pages arena_len region_of
     changed count_changed lowest_changed prg_changes chr_changes changes layout_ok used_ok entry_ok memory_ok
     banks_of window_base region_page each_page show_pages map_pages unmap_pages set_writable map_prg map_chr unmap_prg set_prg_writable
-    nametable_page mirror_pages set_mirroring unmapped_memory new_memory whole_part out_ok level_ok audio_ok advanced written
-    nibble_at next_phase level_at sum_from total sum_of mix_of output_of next_channel update_channel updated sound_clock
+    nametable_page mirror_pages set_mirroring unmapped_memory new_memory whole_part out_low out_high out_ok level_ok audio_ok advanced written
+    nibble_at next_phase level_at sum_from sum_of mix_of output_of next_channel update_channel updated sound_clock
     may_change maybe_set_board board_at_load detecting_at_load mirroring_at_load chip_at_load clock_counter
     sets_ciram write_slot write_nametable write_c000 write_c800 mirroring_e000 detect_e000 high_bits_e000 write_e000 write_e800 write_f000 write_f800
     write_sound_data write_counter_low write_counter_high write_work_ram write_chip remaps map_slot map_slots map_chr_table map_rom map_work_ram update_banks

@@ -111,7 +111,7 @@ sounds =
     let one = run_gave p 15 (nan ∷ []) in
     (length_of 0xFC, 4) ∷ (length_of 0xFF, 4) ∷ (length_of 0x00, 256) ∷ (length_of 0x03, 256)
     ∷ (level_of 0 15, 3720) ∷ (level_of 7 15, 3825) ∷ (level_of 8 15, 0) ∷ (level_of 15 15, 105)
-    ∷ (to_bits binary32 (mix_of (map whole (9 ∷ 9 ∷ 9 ∷ 9 ∷ 9 ∷ 1 ∷ 0 ∷ 0 ∷ [])) 2), 0x3EAAAAAB)
+    ∷ (to_bits binary32 (mix_of (map whole (9 ∷ 9 ∷ 9 ∷ 9 ∷ 9 ∷ 1 ∷ 0 ∷ 0 ∷ [])) 2 false), 0x3EAAAAAB)
     ∷ (short.refusal, 0) ∷ (short.made, 0) ∷ (short.state.chip.audio.update_counter, 14)
     ∷ (one.refusal, 0) ∷ (one.made, 1) ∷ (one.state.chip.audio.update_counter, 0) ∷ (to_bits binary32 (get_or one.samples 0 nan), 0)
     ∷ []

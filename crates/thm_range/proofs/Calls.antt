@@ -45,7 +45,7 @@ use Rattle.call_cpu.specs.Calls.{WriteAnswer}
 use Rattle.call_cpu.specs.Calls.{write_register, cpu_write as cpu_write_gives}
 use Rattle.call_reset.specs.Reset.{kind_of}
 use Rattle.call_battery.specs.Battery.{battery_bytes}
-use Rattle.call_load.specs.Cartridge.{LoadFits, memory_at_load, fresh_state}
+use Rattle.call_load.specs.Cartridge.{LoadFits, memory_at_load, chosen, fresh_state}
 use Rattle.call_load.proofs.Laws.{sized-load, load-good}
 use Rattle.call_run.specs.Clock.{state_clock}
 use Rattle.call_run.specs.Run.{clocks, run_checks, run_gave}
@@ -306,19 +306,20 @@ zeroed-fits l sub =
     let h = accepted-none (load_checks mapper sizes (length l.arena)) (search rules) l.accepted in
     let g = load-good mapper sizes (length l.arena) l.accepted in
     let m = memory_at_load mapper sizes in
-    let q = mapped l.options.f800_protects (chip_at_load mapper l.submapper l.flags l.known) m in
+    let signed = l.options.signed_levels in let plain = l.options.plain_sum in
+    let q = mapped l.options.f800_protects (chosen (chip_at_load mapper l.submapper l.flags l.known) l.options) m in
     let number = mapper-in mapper (not-false (mapper_ok mapper) h.0) in
     record {
       known =
           record {
             typed =
                 record {
-                  chip = load_typed mapper l.submapper l.flags l.known g.small sub;
+                  chip = load_typed mapper l.submapper l.flags l.known signed plain g.small sub;
                   memory = q.kept.typed (memory-load mapper sizes);
                 };
             range =
                 record {
-                  chip = load-in-range mapper l.submapper l.flags l.known number;
+                  chip = load-in-range mapper l.submapper l.flags l.known signed plain number;
                   memory = memory-range m _ q
                       (record { ranged = ranged-load mapper sizes g.fits; used = used-load mapper sizes g.fits });
                 };

@@ -7,3 +7,4 @@ pub mod Options
 pub mod Runs
 pub mod Images
 pub mod Numbers
+pub mod Zero

@@ -30,7 +30,7 @@ use Rattle.thm_range.proofs.Calls.{other_fits, run_fits, load_fits}
 
 -- ---- fit, whatever the calls
 
-kept : Kept board CallTyped Fit
+pub kept : Kept board CallTyped Fit
 kept = record { run = λ n lent h t f. run_fits n lent h f; other = λ a h t f. other_fits a h t f }
 
 pub always-fit : (l : Loaded) → l.submapper < 2 ^ 8 → (calls : List (Call Float Other)) → AllTyped CallTyped calls

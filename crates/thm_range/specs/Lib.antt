@@ -1,2 +1,3 @@
 -- A known state and its arena.
 pub mod Fit
+pub mod Zero

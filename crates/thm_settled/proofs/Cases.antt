@@ -21,7 +21,7 @@ use Rattle.board_chr.specs.Slots.{write_nametable, write_c000}
 use Rattle.board_prg.specs.Banks.{detect_e000, high_bits_e000, write_e000}
 use Rattle.board_registers.specs.Writes.{write_sound_data, write_work_ram, write_chip}
 use Rattle.call_cpu.specs.Calls.{write_register}
-use Rattle.call_load.specs.Cartridge.{fresh_state}
+use Rattle.call_load.specs.Cartridge.{chosen, fresh_state}
 use Rattle.thm_machine.specs.Calls.{Held, Other, cpu_write, reset, Answer, ArgTyped}
 use Rattle.thm_machine.specs.Paper.{checks, answers}
 use Rattle.thm_machine.specs.Board.{other_gives}
@@ -85,7 +85,8 @@ moves (m ∷ ms) h f w =
 
 -- a field of the registers after such a list from a load
 field : {A : Type 0} (of : Namco163 → A) (l : Loaded) → l.submapper < 2 ^ 8 → (ms : List Move) → all_fine ms ≡ true
-    → of (after (calls ms) (loaded l)).state.chip ≡ of (all_moved ms (chip_at_load l.mapper l.submapper l.flags l.known))
+    → of (after (calls ms) (loaded l)).state.chip
+    ≡ of (all_moved ms (chosen (chip_at_load l.mapper l.submapper l.flags l.known) l.options))
 unfolding fresh_state
 field of l sub ms w =
     ap of (moves ms (loaded l) (load_fits l sub) w ∙ ap (λ (h : Held). all_moved ms h.state.chip) (load-starts l))
@@ -99,14 +100,18 @@ abbrev pub U : Loaded → Type 0
 U l = (l.mapper ≡ 210) × (l.submapper ≡ 0)
 
 module _ {A : Type 0} (of : Namco163 → A) (l : Loaded) (sub : l.submapper < 2 ^ 8) (ms : List Move) (w : all_fine ms ≡ true) where
-  of-d : D l → of (after (calls ms) (loaded l)).state.chip ≡ of (all_moved ms (chip_at_load 19 l.submapper l.flags false))
+  of-d : D l → of (after (calls ms) (loaded l)).state.chip
+      ≡ of (all_moved ms (chosen (chip_at_load 19 l.submapper l.flags false) l.options))
   of-d d =
       field of l sub ms w
-      ∙ ap₂ (λ (mapper : ℕ) (known : Bool). of (all_moved ms (chip_at_load mapper l.submapper l.flags known))) d.0 d.1
+      ∙ ap₂ (λ (mapper : ℕ) (known : Bool). of (all_moved ms (chosen (chip_at_load mapper l.submapper l.flags known) l.options)))
+      d.0 d.1
 
-  of-u : U l → of (after (calls ms) (loaded l)).state.chip ≡ of (all_moved ms (chip_at_load 210 0 l.flags l.known))
+  of-u : U l → of (after (calls ms) (loaded l)).state.chip
+      ≡ of (all_moved ms (chosen (chip_at_load 210 0 l.flags l.known) l.options))
   of-u u =
-      field of l sub ms w ∙ ap₂ (λ (mapper submapper : ℕ). of (all_moved ms (chip_at_load mapper submapper l.flags l.known))) u.0 u.1
+      field of l sub ms w ∙ ap₂ (λ (mapper submapper : ℕ). of (all_moved ms (chosen (chip_at_load mapper submapper l.flags l.known) l.options)))
+      u.0 u.1
 
 abbrev type : Namco163 → Board
 type n = n.board

@@ -11,6 +11,7 @@ use Rattle.limits.proofs.Each.{cond-holds, each_set, below_set, each-replicate}
 use Rattle.memory.specs.Range.{Bytes}
 use Rattle.memory.specs.declared.mirroring.Mirroring.{Mirroring}
 use Rattle.sound.specs.declared.audio.Audio.{Audio}
+use Rattle.sound.specs.Audio.{with_choice}
 use Rattle.sound.specs.Range.{InRange as AudioInRange, Typed as AudioTyped}
 use Rattle.sound.specs.Registers.{read_of, written}
 use Rattle.sound.proofs.registers.Range.{written-range, written-typed, advanced-range, advanced-typed}
@@ -201,13 +202,19 @@ reset-keeps n k =
       nametables-long true n.nt_bank_enable ∙ t.flags,
       (nametables-long 0 n.chr_banks ∙ t.chr, nametables-bytes n.chr_banks t.chr_bytes),
     ))
-    refl (λ h. h) (λ t. fresh-typed) (λ t r. fresh-range)
+    refl (λ h. h) (λ t. fresh-typed _ _) (λ t r. fresh-range _ _)
 
 -- ---- load
 
-pub load_typed : (mapper sub flags : ℕ) (known : Bool) → mapper < 2 ^ 16 → sub < 2 ^ 8 → ChipTyped (chip_at_load mapper sub flags known)
+-- the registers at load, with the choices of a load's sound
+abbrev at_load : ℕ → ℕ → ℕ → Bool → Bool → Bool → Namco163
+at_load mapper sub flags known signed plain =
+    let n = chip_at_load mapper sub flags known in with_audio n (with_choice n.audio signed plain)
+
+pub load_typed : (mapper sub flags : ℕ) (known signed plain : Bool) → mapper < 2 ^ 16 → sub < 2 ^ 8
+    → ChipTyped (at_load mapper sub flags known signed plain)
 unfolding chip_at_load
-load_typed mapper sub flags known m s =
+load_typed mapper sub flags known signed plain m s =
     record {
       counter = omega arith;
       protect = omega arith;
@@ -217,10 +224,15 @@ load_typed mapper sub flags known m s =
       chr = refl;
       chr_bytes = each-replicate (λ (x : ℕ). x < 256) 12 0 0 (omega arith) (omega arith);
       prg = refl;
-      audio = fresh-typed;
+      audio = fresh-typed signed plain;
     }
 
-pub load-in-range : (mapper sub flags : ℕ) (known : Bool) → MapperIn mapper → ChipInRange (chip_at_load mapper sub flags known)
+pub load-in-range : (mapper sub flags : ℕ) (known signed plain : Bool) → MapperIn mapper
+    → ChipInRange (at_load mapper sub flags known signed plain)
 unfolding chip_at_load
-load-in-range mapper sub flags known m =
-    record { mapper = m; banks = each-replicate (λ (x : ℕ). x ≤ bank_most) 3 0 0 (omega arith) (omega arith); audio = fresh-range }
+load-in-range mapper sub flags known signed plain m =
+    record {
+      mapper = m;
+      banks = each-replicate (λ (x : ℕ). x ≤ bank_most) 3 0 0 (omega arith) (omega arith);
+      audio = fresh-range signed plain;
+    }

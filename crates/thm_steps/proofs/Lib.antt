@@ -3,3 +3,4 @@ pub mod Chip
 pub mod Banking
 pub mod Protection
 pub mod Clock
+pub mod Choice

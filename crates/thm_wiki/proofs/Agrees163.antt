@@ -163,7 +163,7 @@ fresh-good : (sub flags : ℕ) (known : Bool) (sizes : MemoryLayout) (options : 
     → Good (not known) start (fresh_state 19 sub flags known sizes options)
 unfolding fresh_state chip_at_load detecting_at_load
 fresh-good sub flags known sizes options =
-    record { detects = refl; stands = stands-fresh sub flags known; mapped = load-mapped 19 sub flags known sizes options }
+    record { detects = refl; stands = stands-fresh sub flags known options; mapped = load-mapped 19 sub flags known sizes options }
 
 pub agrees-163 : (l : Loaded) → l.mapper ≡ 19 → l.submapper < 2 ^ 8 → (calls : List (Call Float Other)) → AllTyped Plain calls
     → let x = beside calls (loaded l) start in not l.known && x.notes.turned ≡ false

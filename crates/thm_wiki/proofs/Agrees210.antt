@@ -168,7 +168,7 @@ reached b other sub l small m e is quiet calls t =
     let first : Good b k other start (loaded l).state =
     fresh_at l sub (Good b k other start) m e
     (record {
-      stands = fresh-stands b k other sub l.flags l.known is quiet refl;
+      stands = fresh-stands b k other sub l.flags l.known l.options is quiet refl;
       mapped = load-mapped 210 sub l.flags l.known l.sizes l.options;
       used = fresh-used sub l.flags l.known l.sizes l.options;
     }) in

@@ -70,7 +70,7 @@ case-175 = ((refl, refl), (refl, refl))
 
 -- F800 = 41 in the edition where it protects: no store to work RAM before it, and after it to each part but the first
 abbrev protecting : State
-protecting = fresh_state 19 0 0 true (sizes_p 128) (record { f800_protects = true })
+protecting = fresh_state 19 0 0 true (sizes_p 128) (record { f800_protects = true; signed_levels = false; plain_sum = false })
 
 abbrev work_ram : State → List ℕ
 work_ram s = map (prg s) (24 ∷ 25 ∷ 26 ∷ 27 ∷ 28 ∷ 29 ∷ 30 ∷ 31 ∷ [])
@@ -115,7 +115,7 @@ phase-departs = (refl, (refl, refl))
 abbrev waves : List ℕ
 waves = set (set (set (set (replicate 128 0) 0x04 0x0F) 0x7C 0xF0) 0x7D 0x08) 0x7F 0x0F
 
-pub level-departs : (level_at waves (base_addr 7) (next_phase waves (base_addr 7) 0) ≡ 3720)
+pub level-departs : (level_at waves (base_addr 7) (next_phase waves (base_addr 7) 0) false ≡ pos 3720)
     × (wiki_output waves 0x78 (wiki_next_phase waves 0x78) ≡ pos 105)
 unfolding level_at nibble_at next_phase
 level-departs = (refl, refl)

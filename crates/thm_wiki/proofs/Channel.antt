@@ -1,23 +1,23 @@
 -- A channel's registers and samples are the wiki's (W16, W19), and so are the turn (W18) and the sum of the enabled channels (W17, W21).
--- Departure from W20: the level wraps in 8 bits where the wiki's is signed: it is the signed one if the nibble is 8 or more, else 256 times
--- the volume above it. Assumes nothing.
+-- So is the level (W20) where levels are signed. Departure from W20: where they wrap in 8 bits, the level is the signed one if the nibble is
+-- 8 or more, else 256 times the volume above it. Assumes nothing.
 use Prim.Native.Nat.{ℕ, zero, suc, ◌+◌, ◌-◌, ◌*◌, ◌/◌, ◌%◌, ◌≤◌, ◌<◌}
 use mathlib.Core.Path.{◌≡◌, refl, sym, ap, ◌∙◌}
 use mathlib.Core.Bool.{Bool, true, false, cond}
-use mathlib.Core.List.{List, [], ◌∷◌, map}
+use mathlib.Core.List.{List, [], ◌∷◌}
 use mathlib.Core.Logic.{⊎_elim}
-use native.Mathlib.Nat.{eq-or-lt_of_le, add-mul, zero-add}
+use native.Mathlib.Nat.{eq-or-lt_of_le, add-mul}
 use native.Mathlib.Omega.{arith}
 use borrow.Author.Tests.{lt-ltb, le-ltb, le-leb, lt-leb, leb-false, ltb-true, ltb-false}
 use lib.Dec.{eqb, leb, ltb}
-use lib.IntN.{pos, neg_ℤ, ◌+ℤ◌, +ℤ_comm, +ℤ-neg_ℤ_cancel}
-use lib.ListN.{get_or, set, drop}
+use lib.IntN.{ℤ, pos, neg_ℤ, ◌+ℤ◌, +ℤ_comm, +ℤ_idl, +ℤ-neg_ℤ_cancel}
+use lib.ListN.{length, get_or, set, drop}
 use lib.Seq.{drop-set-lt}
-use lib.Ieee.{Float, binary32, round}
-use Rattle.sound.specs.Levels.{whole}
-use Rattle.sound_wave.specs.Channel.{base_addr, frequency_at, wave_length_at, nibble_at, level_of, level_at}
-use Rattle.sound_wave.specs.Mix.{total, sum_of, mix_of}
+use lib.Ieee.{Float}
+use Rattle.sound_wave.specs.Channel.{base_addr, frequency_at, wave_length_at, nibble_at, level_of, signed_of, level_at}
+use Rattle.sound_wave.specs.Mix.{Wholes, total, sum_of, mix_of, exact_out}
 use Rattle.sound_wave.proofs.mix.Laws.{mix-rounds}
+use Rattle.sound_wave.proofs.Range.Mix.{wholes-length, wholes-size}
 use Rattle.sound_clock.specs.Clock.{next_channel}
 use Rattle.thm_wiki.specs.Sound.{
   wiki_base,
@@ -74,11 +74,18 @@ level-agrees n v h =
     parts : (n : ℕ) → n < 8 → 256 ≡ n + 248 + (8 - n)
     parts n l = omega arith
 
--- the level at a phase, against the wiki's output there
-pub output-agrees : (ram : List ℕ) (b p : ℕ) → get_or ram (wiki_place ram b p / 2) 0 < 256
-    → pos (level_at ram b p) ≡ wiki_output ram b p +ℤ pos (cond (leb 8 (wiki_sample ram (wiki_place ram b p))) 0 (256 * wiki_volume ram b))
-unfolding level_at
-output-agrees ram b p h =
+-- S14: a signed level at a phase is the wiki's output there
+pub signed-level-agrees : (ram : List ℕ) (b p : ℕ) → level_at ram b p true ≡ wiki_output ram b p
+unfolding level_at signed_of
+signed-level-agrees ram b p = rw (sample-agrees ram (wiki_place ram b p))
+
+-- the level at a phase in either choice, against it
+pub output-agrees : (ram : List ℕ) (b p : ℕ) (signed : Bool) → get_or ram (wiki_place ram b p / 2) 0 < 256
+    → level_at ram b p signed ≡ cond signed (wiki_output ram b p)
+    (wiki_output ram b p +ℤ pos (cond (leb 8 (wiki_sample ram (wiki_place ram b p))) 0 (256 * wiki_volume ram b)))
+unfolding level_at signed_of
+output-agrees ram b p true h = signed-level-agrees ram b p
+output-agrees ram b p false h =
     rw (sample-agrees ram (wiki_place ram b p))
     (level-agrees (wiki_sample ram (wiki_place ram b p)) (wiki_volume ram b) (nibble (eqb (wiki_place ram b p % 2) 0)))
   where
@@ -98,22 +105,25 @@ turn-agrees k c h =
 -- ---- the sum: W17, W21
 
 -- channels that are not enabled do not count in `out`
-pub not-enabled : (outs : List Float) (c k : ℕ) (x : Float) → wiki_enabled c k ≡ false → mix_of (set outs k x) c ≡ mix_of outs c
+pub not-enabled : (outs : List Float) (c k : ℕ) (x : Float) (plain : Bool) → wiki_enabled c k ≡ false
+    → mix_of (set outs k x) c plain ≡ mix_of outs c plain
 unfolding mix_of sum_of
-not-enabled outs c k x e = rw (drop-set-lt (7 - c) outs k x (omega (arith, leb-false 7 (k + c) e)))
+not-enabled outs c k x plain e = rw (drop-set-lt (7 - c) outs k x (omega (arith, leb-false 7 (k + c) e)))
 
-all-enabled : (c k : ℕ) (xs : List ℕ) → 7 ≤ k + c → wiki_sum c k xs ≡ total xs
+all-enabled : (c k : ℕ) (zs : List ℤ) → 7 ≤ k + c → wiki_sum c k zs ≡ total zs
 unfolding wiki_sum total
 all-enabled c k [] h = refl
-all-enabled c k (x ∷ xs) h = rw (le-leb 7 (k + c) h) (ap (λ (t : ℕ). x + t) (all-enabled c (k + 1) xs (omega arith)))
+all-enabled c k (z ∷ zs) h = rw (le-leb 7 (k + c) h) (ap (λ (t : ℤ). z +ℤ t) (all-enabled c (k + 1) zs (omega arith)))
 
-sum-enabled : (c k m : ℕ) (xs : List ℕ) → k + c + m ≡ 7 → wiki_sum c k xs ≡ total (drop m xs)
+sum-enabled : (c k m : ℕ) (zs : List ℤ) → k + c + m ≡ 7 → wiki_sum c k zs ≡ total (drop m zs)
 unfolding wiki_sum total
-sum-enabled c k zero xs h = all-enabled c k xs (omega arith)
+sum-enabled c k zero zs h = all-enabled c k zs (omega arith)
 sum-enabled c k (suc m) [] h = refl
-sum-enabled c k (suc m) (x ∷ xs) h = rw (lt-leb 7 (k + c) (omega arith)) (zero-add _ ∙ sum-enabled c (k + 1) m xs (omega arith))
+sum-enabled c k (suc m) (z ∷ zs) h = rw (lt-leb 7 (k + c) (omega arith)) (+ℤ_idl _ ∙ sum-enabled c (k + 1) m zs (omega arith))
 
--- and `out` is the sum of those that are, divided by their number and rounded once
-pub mix-agrees : (ks : List ℕ) (c : ℕ) → c < 8 → total (drop (7 - c) ks) ≤ 16777216
-    → mix_of (map whole ks) c ≡ round binary32 false (wiki_sum c 0 ks) (c + 1)
-mix-agrees ks c l h = rw (sum-enabled c 0 (7 - c) ks (omega arith)) (mix-rounds ks c h l)
+-- and `out` is the sum of those that are, or that divided by their number and rounded once
+pub mix-agrees : (signed : Bool) (outs : List Float) (w : Wholes signed outs) (c : ℕ) (plain : Bool) → length outs ≡ 8 → c < 8
+    → mix_of outs c plain ≡ exact_out (wiki_sum c 0 w.numbers) c plain
+mix-agrees signed outs w c plain n l =
+    let z = wholes-size signed w.numbers c (wholes-length signed outs w n) l w.within in
+    rw (w.are, sum-enabled c 0 (7 - c) w.numbers (omega arith)) (mix-rounds w.numbers c plain (omega arith) l)

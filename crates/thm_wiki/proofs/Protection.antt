@@ -37,7 +37,7 @@ use Rattle.board_state.specs.declared.Options.{Options}
 use Rattle.board_state.specs.declared.State.{State}
 use Rattle.board_state.specs.State.{with_chip}
 use Rattle.call_cpu.specs.Calls.{write_register}
-use Rattle.call_load.specs.Cartridge.{memory_at_load, fresh_state}
+use Rattle.call_load.specs.Cartridge.{chosen, memory_at_load, fresh_state}
 use Rattle.call_refusals.specs.Refusals.{first_of}
 use Rattle.call_reset.specs.Reset.{kind_of}
 use Rattle.call_run.specs.Clock.{state_clock}
@@ -249,7 +249,7 @@ fresh-protected : (sub flags : ℕ) (sizes : MemoryLayout) (options : Options) �
     → Protected at_load (fresh_state 19 sub flags true sizes options)
 unfolding fresh_state chip_at_load board_at_load detecting_at_load
 fresh-protected sub flags sizes options e =
-    let n = chip_at_load 19 sub flags true in
+    let n = chosen (chip_at_load 19 sub flags true) options in
     let m = memory_at_load 19 sizes in
     let f : Firm163 0 n = record { fixed = refl; board = refl; byte = refl } in
     rw e

@@ -14,13 +14,13 @@ use lib.ListN.{length, length-set, get_or, get_or-replicate, replicate, set}
 use lib.Seq.{get_or-set_same, get_or-set_other}
 use Rattle.limits.proofs.Every.{every-at}
 use Rattle.sound.specs.declared.audio.Audio.{Audio}
-use Rattle.sound.specs.Audio.{fresh, with_counter}
+use Rattle.sound.specs.Audio.{fresh, with_counter, with_choice}
 use Rattle.sound.specs.Audio.{with_ram as with_sound_ram, with_addr, with_disabled}
-use Rattle.sound.specs.Levels.{whole}
+use Rattle.sound.specs.Levels.{whole, whole_z}
 use Rattle.sound.specs.Range.{Typed, InRange}
 use Rattle.sound.specs.Registers.{advanced}
 use Rattle.sound.proofs.levels.Laws.{zero_bits}
-use Rattle.sound_wave.specs.Channel.{base_addr, channel_count, next_phase, level_at}
+use Rattle.sound_wave.specs.Channel.{base_addr, channel_count, next_phase, output_at}
 use Rattle.sound_wave.proofs.Range.Channel.{next-phase-small}
 use Rattle.sound_clock.specs.Clock.{update_channel, updated, sound_clock}
 use Rattle.thm_wiki.specs.Sound.{WikiSound, no_sound, wiki_base, wiki_phase, wiki_stored, wiki_count, wiki_place, wiki_sample}
@@ -102,8 +102,12 @@ pub record SoundBeside (w : WikiSound) (changed : Bool) (above : List ℕ) (stra
   pub agrees : SoundAgrees w changed above stray a
   pub long : Lengths w.ram w.outs above stray
 
-pub sound-fresh : SoundBeside no_sound false (replicate 8 0) (replicate 8 false) fresh
-sound-fresh =
+zero-out : (signed : Bool) → whole 0 ≡ whole_z (cond signed (pos 0) (pos 0 +ℤ pos 0))
+zero-out true = refl
+zero-out false = refl
+
+pub sound-fresh : (signed plain : Bool) → SoundBeside no_sound false (replicate 8 0) (replicate 8 false) (with_choice fresh signed plain)
+sound-fresh signed plain =
     record {
       agrees =
           record {
@@ -121,11 +125,8 @@ sound-fresh =
             port = (refl, refl);
             turn = (refl, (refl, refl));
             outs = λ k h f.
-                record {
-                  level = 0;
-                  kept = get_or-replicate 8 k _ nan h ∙ zero_bits;
-                  is = rw (get_or-replicate {A = ℤ} 8 k (pos 0) (pos 0) h, get_or-replicate {A = ℕ} 8 k 0 0 h);
-                };
+                rw (get_or-replicate {A = ℤ} 8 k (pos 0) (pos 0) h, get_or-replicate {A = ℕ} 8 k 0 0 h)
+                (get_or-replicate 8 k _ nan h ∙ zero_bits ∙ zero-out signed);
           };
       long = record { rams = refl; channels = refl; aboves = refl; strays = refl };
     }
@@ -257,10 +258,10 @@ module _ (w : WikiSound) (changed : Bool) (above : List ℕ) (stray : List Bool)
 
   -- the wiki's output and what is noted above it are those of the board's RAM, where the sample lies in no phase byte
   output-same : (p : ℕ) → is_phase (wiki_place w.ram (wiki_at w) p / 2) ≡ false
-      → wiki_output a.ram (wiki_at w) p
-      +ℤ pos (cond (leb 8 (wiki_sample a.ram (wiki_place a.ram (wiki_at w) p))) 0 (256 * wiki_volume a.ram (wiki_at w)))
-      ≡ wiki_output w.ram (wiki_at w) p
-      +ℤ pos (cond (leb 8 (wiki_sample w.ram (wiki_place w.ram (wiki_at w) p))) 0 (256 * wiki_volume w.ram (wiki_at w)))
+      → cond a.signed_levels (wiki_output a.ram (wiki_at w) p) (wiki_output a.ram (wiki_at w) p
+      +ℤ pos (cond (leb 8 (wiki_sample a.ram (wiki_place a.ram (wiki_at w) p))) 0 (256 * wiki_volume a.ram (wiki_at w))))
+      ≡ cond a.signed_levels (wiki_output w.ram (wiki_at w) p) (wiki_output w.ram (wiki_at w) p
+      +ℤ pos (cond (leb 8 (wiki_sample w.ram (wiki_place w.ram (wiki_at w) p))) 0 (256 * wiki_volume w.ram (wiki_at w))))
   output-same p f =
       let k = w.turn in
       let six = sym (g.ram.others (wiki_base k + 6) (no-phase k 6 refl (omega arith))) in
@@ -303,39 +304,38 @@ module _ (w : WikiSound) (changed : Bool) (above : List ℕ) (stray : List Bool)
             (q.agrees.ram.phase c k h)
 
     outs-kept : (k : ℕ) → k < 8 → get_or (stray_next w changed stray) k false ≡ false
-        → PutOut (get_or (set w.outs w.turn (wiki_output w.ram (wiki_at w) (wiki_next w))) k (pos 0)) (get_or (above_next w above) k 0)
-        (get_or (set a.channel_out w.turn (whole (level_at a.ram (base_addr w.turn) phase-of))) k nan)
+        → PutOut a.signed_levels (get_or (set w.outs w.turn (wiki_output w.ram (wiki_at w) (wiki_next w))) k (pos 0))
+        (get_or (above_next w above) k 0)
+        (get_or (set a.channel_out w.turn (output_at a.ram (base_addr w.turn) phase-of a.signed_levels)) k nan)
     outs-kept k h f = by (ℕ_discrete k w.turn) f
       where
         by : Dec (k ≡ w.turn) → get_or (stray_next w changed stray) k false ≡ false
-            → PutOut (get_or (set w.outs w.turn (wiki_output w.ram (wiki_at w) (wiki_next w))) k (pos 0)) (get_or (above_next w above) k 0)
-            (get_or (set a.channel_out w.turn (whole (level_at a.ram (base_addr w.turn) phase-of))) k nan)
+            → PutOut a.signed_levels (get_or (set w.outs w.turn (wiki_output w.ram (wiki_at w) (wiki_next w))) k (pos 0))
+            (get_or (above_next w above) k 0)
+            (get_or (set a.channel_out w.turn (output_at a.ram (base_addr w.turn) phase-of a.signed_levels)) k nan)
         by (yes e) f =
             let s : is_phase (next_place w / 2) || changed ≡ false =
             sym (get_or-set_same stray w.turn (is_phase (next_place w / 2) || changed) false (omega (arith, turn_small, q.long.strays)))
             ∙ ap (λ (i : ℕ). get_or (stray_next w changed stray) i false) (sym e) ∙ f in
             let c = or_right (is_phase (next_place w / 2)) changed s in
             let p = phase-agrees c turn_small in
-            record {
-              level = level_at a.ram (wiki_at w) (wiki_next w);
-              kept =
-                  rw (e, p, base_agrees w.turn)
-                  (get_or-set_same a.channel_out w.turn _ nan (omega (arith, turn_small, t.outputs_length)));
-              is =
-                  rw (
-                    e,
-                    get_or-set_same w.outs w.turn (wiki_output w.ram (wiki_at w) (wiki_next w)) (pos 0)
-                        (omega (arith, turn_small, q.long.channels)),
-                    get_or-set_same above w.turn (above_of w) 0 (omega (arith, turn_small, q.long.aboves)),
-                  )
-                  (output-agrees a.ram (wiki_at w) (wiki_next w) (t.bytes _)
-                  ∙ output-same (wiki_next w) (or_left (is_phase (next_place w / 2)) changed s));
-            }
+            rw (
+              e,
+              get_or-set_same w.outs w.turn (wiki_output w.ram (wiki_at w) (wiki_next w)) (pos 0)
+                  (omega (arith, turn_small, q.long.channels)),
+              get_or-set_same above w.turn (above_of w) 0 (omega (arith, turn_small, q.long.aboves)),
+              ← p,
+              base_agrees w.turn,
+            )
+            (get_or-set_same a.channel_out w.turn _ nan (omega (arith, turn_small, t.outputs_length))
+            ∙ ap whole_z (output-agrees a.ram (wiki_at w) (wiki_next w) a.signed_levels (t.bytes _)
+            ∙ output-same (wiki_next w) (or_left (is_phase (next_place w / 2)) changed s)))
         by (no ne) f =
             rw (
               get_or-set_other w.outs w.turn k (wiki_output w.ram (wiki_at w) (wiki_next w)) (pos 0) ne,
               get_or-set_other above w.turn k (above_of w) 0 ne,
-              get_or-set_other a.channel_out w.turn k (whole (level_at a.ram (base_addr w.turn) phase-of)) nan ne,
+              get_or-set_other a.channel_out w.turn k
+                  (output_at a.ram (base_addr w.turn) phase-of a.signed_levels) nan ne,
             )
             (q.agrees.outs k h (sym (get_or-set_other stray w.turn k (is_phase (next_place w / 2) || changed) false ne) ∙ f))
 

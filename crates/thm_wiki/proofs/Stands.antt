@@ -17,6 +17,8 @@ use Rattle.board_chip.specs.declared.namco163.Namco163.{Namco163}
 use Rattle.board_chip.specs.Namco163.{is163, with_regs, with_audio, with_selects}
 use Rattle.board_chip.specs.Clock.{clock_counter}
 use Rattle.board_chip.specs.Load.{board_at_load, chip_at_load}
+use Rattle.board_state.specs.declared.Options.{Options}
+use Rattle.call_load.specs.Cartridge.{chosen}
 use Rattle.board_chip.specs.Reads.{after_read}
 use Rattle.board_chr.specs.Slots.{write_slot, write_nametable}
 use Rattle.board_prg.specs.Banks.{bit6, bit7, write_bank, high_bits_e000, write_e800}
@@ -53,9 +55,16 @@ pub record Stands (x : Noted) (n : Namco163) : Type 0 where
 
 -- ---- a load of mapper 19
 
-pub stands-fresh : (sub flags : ℕ) (known : Bool) → Stands start (chip_at_load 19 sub flags known)
+pub stands-fresh : (sub flags : ℕ) (known : Bool) (options : Options) → Stands start (chosen (chip_at_load 19 sub flags known) options)
 unfolding chip_at_load board_at_load
-stands-fresh sub flags known = record { board = refl; regs = regs-fresh; protect = refl; irq = refl; sound = sound-fresh }
+stands-fresh sub flags known options =
+    record {
+      board = refl;
+      regs = regs-fresh;
+      protect = refl;
+      irq = refl;
+      sound = sound-fresh options.signed_levels options.plain_sum;
+    }
 
 -- ---- a write
 

@@ -21,6 +21,8 @@ use Rattle.board_chip.specs.Namco163.{is163, is175, is340, with_regs, with_audio
 use Rattle.board_chip.specs.Detection.{prg_ram_writable}
 use Rattle.board_chip.specs.Clock.{clock_counter}
 use Rattle.board_chip.specs.Load.{board_at_load, detecting_at_load, mirroring_at_load, chip_at_load}
+use Rattle.board_state.specs.declared.Options.{Options}
+use Rattle.call_load.specs.Cartridge.{chosen}
 use Rattle.board_chip.specs.Reads.{after_read}
 use Rattle.board_chr.specs.Slots.{sets_ciram, write_slot, write_nametable}
 use Rattle.board_prg.specs.Banks.{mirroring_e000, write_bank, high_bits_e000, write_e800}
@@ -387,10 +389,10 @@ module _ (b : Board) (m : Mirroring) (other : is163 b ≡ false) where
 
   -- ---- a load of mapper 210
 
-  pub fresh-stands : (sub flags : ℕ) (known : Bool) → board_at_load 210 sub ≡ b → detecting_at_load 210 sub known ≡ false
-      → mirroring_at_load flags ≡ m → Stands210 start (chip_at_load 210 sub flags known)
+  pub fresh-stands : (sub flags : ℕ) (known : Bool) (options : Options) → board_at_load 210 sub ≡ b → detecting_at_load 210 sub known ≡ false
+      → mirroring_at_load flags ≡ m → Stands210 start (chosen (chip_at_load 210 sub flags known) options)
   unfolding chip_at_load
-  fresh-stands sub flags known is quiet wires =
+  fresh-stands sub flags known options is quiet wires =
       record {
         settled = quiet;
         board = is;

@@ -7,7 +7,7 @@ use Rattle.memory.specs.declared.layout.Src.TheVariants.{CiRam}
 use Rattle.memory.specs.Page.{unmapped}
 use Rattle.memory_map.specs.Mirroring.{ciram_banks, nametable_page}
 use Rattle.sound.specs.declared.audio.Audio.{Audio}
-use Rattle.sound.specs.Levels.{whole}
+use Rattle.sound.specs.Levels.{whole_z}
 use Rattle.board_prg.specs.Banks.{mirroring_e000}
 use Rattle.board_state.specs.declared.State.{State}
 use Rattle.call_cpu.specs.Calls.{cpu_byte}
@@ -62,11 +62,10 @@ pub record CounterAgrees (w : WikiIrq) (s : State) : Type 0 where
 
 -- ---- the sound: W15 to W20
 
--- what a channel put out last: the wiki's signed level, and what is noted above it
-pub record PutOut (out : ℤ) (above : ℕ) (x : Float) : Type 0 where
-  pub level : ℕ
-  pub kept : x ≡ whole level
-  pub is : pos level ≡ out +ℤ pos above
+-- what a channel put out last: the wiki's level itself where levels are signed (S14); departure from W20: where they wrap, that and what is
+-- noted above it
+abbrev pub PutOut : Bool → ℤ → ℕ → Float → Type 0
+PutOut signed out above x = x ≡ whole_z (cond signed out (out +ℤ pos above))
 
 -- the RAM but for the phases, and the phases; `changed`: one was changed by the port or by a restore
 pub record RamAgrees (wiki : List ℕ) (changed : Bool) (ram phases : List ℕ) : Type 0 where
@@ -81,7 +80,7 @@ pub record SoundAgrees (w : WikiSound) (changed : Bool) (above : List ℕ) (stra
   pub turn : (a.disabled ≡ w.silent) × ((a.update_counter ≡ w.timer) × (a.current_channel ≡ w.turn))
   -- what each channel put out
   pub outs : (k : ℕ) → k < 8 → get_or stray k false ≡ false
-      → PutOut (get_or w.outs k (pos 0)) (get_or above k 0) (get_or a.channel_out k nan)
+      → PutOut a.signed_levels (get_or w.outs k (pos 0)) (get_or above k 0) (get_or a.channel_out k nan)
 
 -- what a CPU read of the data port answers, where the address is that of no phase
 abbrev pub PortAnswers : WikiSound → State → Type 0

@@ -1,6 +1,6 @@
 -- The outside definition of the sound: Namco 163 audio as docs/WIKI.md has it, written without the Rust. `ram` is the chip's RAM, with the
 -- phases in it (W16).
-use Rattle.std.specs.Prelude.{ℕ, ◌+◌, ◌-◌, ◌*◌, ◌/◌, ◌%◌, Bool, false, cond, List, [], ◌∷◌, eqb, leb, ℤ, pos, ◌-ℤ◌, ◌*ℤ◌, get_or, set, replicate}
+use Rattle.std.specs.Prelude.{ℕ, ◌+◌, ◌-◌, ◌*◌, ◌/◌, ◌%◌, Bool, false, cond, List, [], ◌∷◌, eqb, leb, ℤ, pos, ◌+ℤ◌, ◌-ℤ◌, ◌*ℤ◌, get_or, set, replicate}
 
 -- ---- a channel's registers, at base b: W16, W19
 
@@ -65,9 +65,9 @@ abbrev pub wiki_enabled : ℕ → ℕ → Bool
 wiki_enabled c k = leb 7 (k + c)
 
 -- W21: the sum of the enabled channels' outputs, from channel k on, which the usual approximation divides by their number
-unfoldable pub wiki_sum : ℕ → ℕ → List ℕ → ℕ
-wiki_sum c k [] = 0
-wiki_sum c k (x ∷ xs) = cond (wiki_enabled c k) x 0 + wiki_sum c (k + 1) xs
+unfoldable pub wiki_sum : ℕ → ℕ → List ℤ → ℤ
+wiki_sum c k [] = pos 0
+wiki_sum c k (z ∷ zs) = cond (wiki_enabled c k) z (pos 0) +ℤ wiki_sum c (k + 1) zs
 
 -- ---- the chip
 

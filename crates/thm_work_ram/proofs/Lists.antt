@@ -38,7 +38,7 @@ use Rattle.board_state.specs.State.{Known}
 use Rattle.call_refusals.specs.Refusals.{first_of}
 use Rattle.call_refusals.proofs.Laws.{fill-good, battery-good, backed}
 use Rattle.call_cpu.specs.Calls.{write_register}
-use Rattle.call_load.specs.Cartridge.{LoadFits, memory_at_load, fresh_state}
+use Rattle.call_load.specs.Cartridge.{LoadFits, chosen, memory_at_load, fresh_state}
 use Rattle.call_load.proofs.Laws.{load-good}
 use Rattle.thm_machine.specs.Calls.{Held, Other, cpu_read, cpu_peek, cpu_write, chr_read, chr_write, fill, region_peek, region_write, sram, reset}
 use Rattle.thm_machine.specs.Calls.{sync_battery, restore_battery, write_image, byte, ArgTyped, CallTyped}
@@ -212,7 +212,7 @@ load-windows : (l : Loaded) → Windows (layout_of l.sizes) (zeroed l).state.mem
 unfolding fresh_state
 load-windows l =
     let g = load-good l.mapper l.sizes (length l.arena) l.accepted in
-    mapped-windows (layout_of l.sizes) l.options.f800_protects (chip_at_load l.mapper l.submapper l.flags l.known) _
+    mapped-windows (layout_of l.sizes) l.options.f800_protects (chosen (chip_at_load l.mapper l.submapper l.flags l.known) l.options) _
     (ranged-load l.mapper l.sizes g.fits) (memory-load l.mapper l.sizes) (layout-load l.mapper l.sizes)
     (load_apart l.mapper l.sizes g.fits)
 

@@ -63,7 +63,8 @@ unsafe fn load_call(load: &Load, (image, image_len): (Bytes, usize), (arena, are
 }
 
 unsafe fn load_options_call(load: &Load, (image, image_len): (Bytes, usize), (arena, arena_len): (Bytes, usize)) -> u64 {
-    let Load { mapper, submapper, flags, in_database, prg_rom, prg_ram, battery, chr, chr_ram, ciram, f800_protects } = *load;
+    let Load { mapper, submapper, flags, in_database, prg_rom, prg_ram, battery, chr, chr_ram, ciram, .. } = *load;
+    let Load { f800_protects, signed_levels, plain_sum, .. } = *load;
     unsafe {
         namco163_load_options(
             image,
@@ -81,6 +82,8 @@ unsafe fn load_options_call(load: &Load, (image, image_len): (Bytes, usize), (ar
             chr_ram,
             ciram,
             f800_protects,
+            signed_levels,
+            plain_sum,
         )
     }
 }
@@ -91,7 +94,8 @@ unsafe fn load_blocks_call(
     (arena, arena_len): (Bytes, usize),
     (places, count): (*mut u64, usize),
 ) -> u64 {
-    let Load { mapper, submapper, flags, in_database, prg_rom, prg_ram, battery, chr, chr_ram, ciram, f800_protects } = *load;
+    let Load { mapper, submapper, flags, in_database, prg_rom, prg_ram, battery, chr, chr_ram, ciram, .. } = *load;
+    let Load { f800_protects, signed_levels, plain_sum, .. } = *load;
     unsafe {
         namco163_load_blocks(
             image,
@@ -111,6 +115,8 @@ unsafe fn load_blocks_call(
             chr_ram,
             ciram,
             f800_protects,
+            signed_levels,
+            plain_sum,
         )
     }
 }

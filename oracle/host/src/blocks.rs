@@ -16,6 +16,7 @@ use oracle::{
     host::BlockCall,
     image::{LEN, OPTIONS_LEN},
     layout::PAGE,
+    options::Options,
     rng::Rng,
     session::{F800, Session},
     states,
@@ -56,9 +57,9 @@ fn session(pair: &mut Pair, rng: &mut Rng, from_load: bool) -> Compared<()> {
 /// K7: an accepted load on any bytes and any 256 places; then bytes are put into the arena, as from a ROM file.
 fn load(pair: &mut Pair, rng: &mut Rng) -> Compared<()> {
     let load = loads::accepted(rng);
-    let load = loads::in_an_edition(rng, load);
+    let load = loads::with_options(rng, load);
     let len = load.arena_len() as usize;
-    draw::lend_bytes(pair, rng, load.has_option());
+    draw::lend_bytes(pair, rng, load.options());
     pair.lend_arena(&rng.bytes(len));
     let way = rng.below(7) as usize;
     let directory = if rng.once_in(2) { fit(rng) } else { unfit(rng, way) };
@@ -195,7 +196,7 @@ fn any_call(pair: &Pair, rng: &mut Rng) -> BlockCall {
     match rng.below(8) {
         0..3 => {
             let load = if rng.once_in(2) { loads::accepted(rng) } else { loads::refused(rng) };
-            BlockCall::Load(loads::in_an_edition(rng, load))
+            BlockCall::Load(loads::with_options(rng, load))
         }
         3..6 => BlockCall::Write(if rng.once_in(3) { rng.pick(&[0x0000, 0x47FF]) } else { address(pair, rng) }, rng.byte()),
         6 => BlockCall::Stored(offset(pair, rng)),
@@ -209,7 +210,7 @@ fn lend_wrong(pair: &mut Pair, rng: &mut Rng, session: &Session, call: BlockCall
         let len = rng.pick(&[0, LEN - 1, OPTIONS_LEN + 1, 1_000]);
         pair.lend_image(&rng.bytes(len));
     } else if rng.once_in(4) {
-        draw::lend_bytes(pair, rng, false);
+        draw::lend_bytes(pair, rng, Options::default());
     }
     let wanted = if let BlockCall::Load(load) = call { load.arena_len() as usize } else { session.arena().len() };
     let len = if rng.once_in(4) { rng.pick(&[0, wanted.saturating_sub(1), wanted + 1]) } else { wanted };

@@ -7,8 +7,9 @@ use crate::{
 };
 use oracle::{
     host::HostCall,
-    image::{self, LENGTHS, OPTIONS_LEN},
+    image,
     layout::Load,
+    options::Options,
     rng::Rng,
     session::{F800, RUN_LIMIT, Session, samples_made},
 };
@@ -29,19 +30,19 @@ pub fn address(rng: &mut Rng) -> u16 {
 
 /// A load by one of the two calls; where it asks for an option, by the one that takes it.
 pub fn load(rng: &mut Rng, load: Load) -> HostCall {
-    if load.has_option() || rng.once_in(2) { HostCall::LoadOptions(load) } else { HostCall::Load(load) }
+    if load.options().any() || rng.once_in(2) { HostCall::LoadOptions(load) } else { HostCall::Load(load) }
 }
 
-/// An image of random bytes, of a length that can hold an option or none.
-pub fn lend_bytes(pair: &mut Pair, rng: &mut Rng, option: bool) {
-    let len = if option { OPTIONS_LEN } else { rng.pick(&LENGTHS) };
+/// An image of random bytes, of a length that can hold these options.
+pub fn lend_bytes(pair: &mut Pair, rng: &mut Rng, options: Options) {
+    let len = rng.pick(image::lengths(options));
     let bytes = rng.bytes(len);
     pair.lend_image(&bytes);
 }
 
 /// Lends a state by an image of one of the lengths that can hold it.
 pub fn lend_state(pair: &mut Pair, rng: &mut Rng, session: Session) {
-    let len = rng.pick(image::lengths(&session));
+    let len = rng.pick(image::lengths(session.options));
     pair.lend_state(session, len);
 }
 

@@ -4,8 +4,9 @@
 use crate::counts::Counts;
 use oracle::{
     host::{BlockCall, Host, HostCall},
-    image::{F800_PROTECTS, LEN, OPTIONS_LEN},
+    image::{LEN, OPTIONS_LEN},
     layout::{Load, PAGE},
+    options::{F800_PROTECTS, Options},
     session::{F800, Session, entry},
 };
 use tetanes::m019_namco163::Board;
@@ -67,7 +68,7 @@ struct State {
 pub fn seen(host: &Host) -> Before {
     let state = |session: &Session| State {
         protects: session.protects(),
-        old_163: !session.f800_protects && session.chip.board == Board::Namco163,
+        old_163: !session.options.f800_protects && session.chip.board == Board::Namco163,
         ram: session.layout().prg_ram > 0,
         writable: session.memory.prg_pages().map(|page| entry(page).1),
     };
@@ -83,15 +84,15 @@ pub fn count(counts: &mut Counts, before: &Before, call: HostCall, word: u64) {
         HostCall::Write(addr, _) if accepted => write(counts, before, addr, word),
         _ => (),
     }
-    let unused = before.image_len == OPTIONS_LEN && before.options & !F800_PROTECTS != 0;
+    let unused = before.image_len == OPTIONS_LEN && Options::of_byte(before.options).is_none();
     counts.reach_if(unused && word == 2, UNUSED_BIT);
     if accepted {
-        counts.reach(CALLS[usize::from(before.image_len == OPTIONS_LEN) + usize::from(before.options == F800_PROTECTS)]);
+        counts.reach(CALLS[usize::from(before.image_len == OPTIONS_LEN) + usize::from(before.options & F800_PROTECTS != 0)]);
     }
 }
 
 fn loaded(counts: &mut Counts, image_len: usize, load: &Load, word: u64) {
-    match (image_len, load.has_option(), word) {
+    match (image_len, load.options().any(), word) {
         (LEN, false, 0) => counts.reach(LOADED[0]),
         (OPTIONS_LEN, false, 0) => counts.reach(LOADED[1]),
         (OPTIONS_LEN, true, 0) => counts.reach(LOADED[2]),
@@ -118,7 +119,7 @@ fn write(counts: &mut Counts, before: &Before, addr: u16, word: u64) {
 
 pub fn count_blocks(counts: &mut Counts, image_len: usize, call: BlockCall, word: u64) {
     if let BlockCall::Load(load) = call {
-        counts.reach_if(load.has_option() && word == 0, BLOCKS_LOADED);
-        counts.reach_if(load.has_option() && image_len == LEN && word == 1, BLOCKS_REFUSED);
+        counts.reach_if(load.options().any() && word == 0, BLOCKS_LOADED);
+        counts.reach_if(load.options().any() && image_len == LEN && word == 1, BLOCKS_REFUSED);
     }
 }

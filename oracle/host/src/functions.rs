@@ -38,6 +38,8 @@ unsafe extern "C" {
         chr_ram: u64,
         ciram: u64,
         f800_protects: u64,
+        signed_levels: u64,
+        plain_sum: u64,
     ) -> u64;
     pub fn namco163_read(image: Bytes, image_len: usize, arena: Bytes, arena_len: usize, addr: u16) -> u64;
     pub fn namco163_write(image: Bytes, image_len: usize, arena: Bytes, arena_len: usize, addr: u16, val: u8) -> u64;
@@ -67,6 +69,8 @@ unsafe extern "C" {
         chr_ram: u64,
         ciram: u64,
         f800_protects: u64,
+        signed_levels: u64,
+        plain_sum: u64,
     ) -> u64;
     pub fn namco163_write_blocks(
         image: Bytes,

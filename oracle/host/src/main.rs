@@ -1,5 +1,6 @@
 // SPDX-License-Identifier: MIT OR Apache-2.0
-//! `host-test`: the C archive against the oracle, which is the unchanged Rust with the amendments of M5, L20 and L21, call by call.
+//! `host-test`: the C archive against the oracle, which is the unchanged Rust with the amendments of M5, L20, L21, S14 and S15, call by
+//! call.
 
 mod archive;
 mod blocks;
@@ -8,6 +9,7 @@ mod draw;
 mod editions;
 mod functions;
 mod lent;
+mod levels;
 mod pair;
 mod places;
 mod previews;
@@ -87,6 +89,7 @@ fn play(pair: &mut Pair, wanted: &Wanted) -> Compared<()> {
     let mut rng = Rng::new(wanted.seed);
     let bases = wanted.calls.div_ceil(50_000);
     editions::want(&mut pair.counts);
+    levels::want(&mut pair.counts);
     sessions::play(pair, &mut rng, wanted.calls / 2)?;
     states::play(pair, &mut rng, wanted.calls / 5)?;
     unfit::flip_bits(pair, &mut rng, bases)?;

@@ -96,6 +96,8 @@ fn load(pair: &mut Pair, rng: &mut Rng, named: Load) -> Compared<()> {
         in_database: yes_no(rng, named.in_database),
         chr_ram: yes_no(rng, named.chr_ram),
         f800_protects: yes_no(rng, named.f800_protects),
+        signed_levels: yes_no(rng, named.signed_levels),
+        plain_sum: yes_no(rng, named.plain_sum),
         ..named
     };
     if rng.once_in(32) {
@@ -107,12 +109,12 @@ fn load(pair: &mut Pair, rng: &mut Rng, named: Load) -> Compared<()> {
         return pair.call(call).map(|_| ());
     }
     // N1: an option needs the longer image.
-    if load.has_option() && rng.once_in(4) {
+    if load.options().any() && rng.once_in(4) {
         pair.lend_image(&rng.bytes(image::LEN));
         pair.call(call)?;
     }
-    if rng.once_in(2) || !image::holds(pair.host().image().len(), load.has_option()) {
-        draw::lend_bytes(pair, rng, load.has_option());
+    if rng.once_in(2) || !image::holds(pair.host().image().len(), load.options()) {
+        draw::lend_bytes(pair, rng, load.options());
     }
     if rng.once_in(8) {
         let other = rng.pick(&[len - 1, len + 1, len - PAGE as usize, len + PAGE as usize]);

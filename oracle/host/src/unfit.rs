@@ -7,12 +7,13 @@ use crate::{
     draw,
     pair::{Compared, Pair},
 };
-use fields::{FIELDS, bad_field, set_bits};
+use fields::{FIELDS, LEVEL_FIELDS, bad_field, set_bits};
 use oracle::{
     generate::loads,
     host::{Host, HostCall},
     image::{self, LEN, LENGTHS, OPTIONS_LEN},
     layout::{Load, PAGE},
+    options::{CHOICES, F800_PROTECTS},
     rng::Rng,
     session::{RUN_LIMIT, Session},
     states,
@@ -21,6 +22,17 @@ use oracle::{
 const FLIPS: &str = "image bits flipped";
 const FLIPS_REFUSED: &str = "image bits flipped that were refused";
 const FIELD_VALUES: &str = "fields set to numbers at and beyond their ends";
+/// By the choice, refused and then accepted.
+const ENDS: [&str; 8] = [
+    "outputs and `out` beyond their ends, wrapping average",
+    "outputs and `out` within their ends, wrapping average",
+    "outputs and `out` beyond their ends, wrapping sum",
+    "outputs and `out` within their ends, wrapping sum",
+    "outputs and `out` beyond their ends, signed average",
+    "outputs and `out` within their ends, signed average",
+    "outputs and `out` beyond their ends, signed sum",
+    "outputs and `out` within their ends, signed sum",
+];
 const RANDOM_IMAGES: &str = "random images";
 const OTHER_LAYOUTS: &str = "damaged images with the arena that they ask for";
 
@@ -33,7 +45,7 @@ struct Base {
 impl Base {
     /// By an image of one of the lengths that can hold it.
     fn of(rng: &mut Rng, session: &Session) -> Self {
-        Self { image: image::of_length(session, rng.pick(image::lengths(session))), arena: session.arena().into() }
+        Self { image: image::of_length(session, rng.pick(image::lengths(session.options))), arena: session.arena().into() }
     }
 
     /// By turns a loaded board after some calls, and a state that no load reaches.
@@ -43,7 +55,7 @@ impl Base {
             return Self::of(rng, &state);
         }
         let load = loads::accepted(rng);
-        let load = loads::in_an_edition(rng, load);
+        let load = loads::with_options(rng, load);
         let session = Session::load(&load, load.arena_len()).unwrap_or_else(|_| unreachable!("such loads are accepted"));
         let mut host = Host::new(session);
         host.samples = vec![0; 20_000];
@@ -108,21 +120,43 @@ pub fn set_fields(pair: &mut Pair, rng: &mut Rng, bases: u64) -> Compared<()> {
         entries(pair, rng, &base)?;
         used_without_reserve(pair, rng, &base)?;
         options(pair, rng, &base)?;
+        levels(pair, rng, &base)?;
     }
     Ok(())
 }
 
-/// H9, N2: the image with each of some bytes of options, the unused bits one by one among them; and cut, which leaves another state where
-/// an option was set.
+/// H9, H11, N2: the image with each of some bytes of options, the unused bits one by one among them; and cut, which leaves another state
+/// where an option was set.
 fn options(pair: &mut Pair, rng: &mut Rng, base: &Base) -> Compared<()> {
     let mut image = base.image.clone();
     image.resize(OPTIONS_LEN, 0);
-    for byte in [0x00, 0x80, 0x40, 0x20, 0x10, 0x08, 0x04, 0x02, 0x01, 0xC0, 0x81, 0x7F, 0xFF] {
+    for byte in [0x00, 0x20, 0x40, 0x60, 0x80, 0xA0, 0xC0, 0xE0, 0x10, 0x08, 0x04, 0x02, 0x01, 0x50, 0x81, 0xE1, 0x7F, 0xFF] {
         image[LEN] = byte;
         pair.counts.reach(FIELD_VALUES);
         each_call(pair, rng, base, &image)?;
     }
     each_call(pair, rng, base, &image[..LEN])
+}
+
+/// R11: in each choice, with the other outputs and `out` of 0, an output and `out` at and beyond the ends of every choice.
+fn levels(pair: &mut Pair, rng: &mut Rng, base: &Base) -> Compared<()> {
+    pair.counts.want(&ENDS);
+    let mut silent = base.image.clone();
+    silent.resize(OPTIONS_LEN, 0);
+    for (field, index) in LEVEL_FIELDS.iter().flat_map(|field| (0..field.count).map(move |index| (field, index))) {
+        set_bits(&mut silent, field.first + index * field.width, field.width, 0);
+    }
+    for (choice, field) in (0..CHOICES.len()).flat_map(|choice| LEVEL_FIELDS.iter().map(move |field| (choice, field))) {
+        silent[LEN] = rng.pick(&[0, F800_PROTECTS]) | (choice as u8) << 5;
+        for (index, value) in (0..field.count).flat_map(|index| field.values.iter().map(move |value| (index, *value))) {
+            let mut image = silent.clone();
+            set_bits(&mut image, field.first + index * field.width, field.width, value);
+            each_call(pair, rng, base, &image)?;
+            let taken = pair.host().session().is_some();
+            pair.counts.reach(ENDS[2 * choice + usize::from(taken)]);
+        }
+    }
+    Ok(())
 }
 
 /// One call of each kind that reads the image, each on the damaged one.
@@ -233,7 +267,7 @@ fn any_call(rng: &mut Rng) -> HostCall {
     match rng.below(7) {
         0 | 1 => {
             let load = if fit { loads::accepted(rng) } else { unfit_load(rng) };
-            let load = loads::in_an_edition(rng, load);
+            let load = loads::with_options(rng, load);
             draw::load(rng, load)
         }
         2 if fit => HostCall::Reset(rng.below(2)),

@@ -5,6 +5,7 @@
 
 mod banking;
 mod blocks;
+mod levels;
 mod loads;
 mod memory;
 mod previews;
@@ -15,6 +16,7 @@ mod runs;
 use crate::{
     directory::Directory,
     layout::{Layout, PAGE, Region},
+    options::Options,
     player::Player,
     session::Session,
     text::Call,
@@ -31,8 +33,7 @@ struct View {
     chip: Namco163,
     layout: Layout,
     used: usize,
-    /// L19: of the new edition.
-    f800_protects: bool,
+    options: Options,
     prg: [Page; 64],
     chr: [Page; 16],
     arena: Vec<u8>,
@@ -47,7 +48,7 @@ impl View {
             chip: session.chip.clone(),
             layout: session.layout(),
             used: *session.memory.raw_battery_ext_len(),
-            f800_protects: session.f800_protects,
+            options: session.options,
             prg: *session.memory.prg_pages(),
             chr: *session.memory.chr_pages(),
             arena: session.arena().into(),
@@ -156,8 +157,9 @@ impl Counter<'_> {
 type Classes = fn() -> Vec<String>;
 type Observe = fn(&Played, &mut Counter);
 
-const AREAS: [(Classes, Observe); 8] = [
+const AREAS: [(Classes, Observe); 9] = [
     (loads::classes, loads::observe),
+    (levels::classes, levels::observe),
     (banking::classes, banking::observe),
     (protection::classes, protection::observe),
     (previews::classes, previews::observe),

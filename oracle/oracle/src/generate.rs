@@ -1,7 +1,8 @@
 // SPDX-License-Identifier: MIT OR Apache-2.0
-//! Random sessions in the replay program's language. A seed gives the same calls everywhere. With options, about half of the loads are of
-//! the new edition (L19), images have both lengths, and F800 is written more often. Without, nothing of that is drawn, and a seed gives the
-//! calls that it gave before there were options; the list that is recorded in the repository is such a one.
+//! Random sessions in the replay program's language. A seed gives the same calls everywhere. With options, loads have each of their eight
+//! sets as often (L19, S13), images have both lengths, F800 is written more often, and there are sounds at the ends of levels. Without,
+//! nothing of that is drawn, and a seed gives the calls that it gave before there were options; the list that is recorded in the repository
+//! is such a one.
 
 mod actions;
 pub mod loads;
@@ -90,15 +91,16 @@ impl Generator {
 
     /// An `image` that is accepted.
     fn whole_image(&self) -> Call {
-        let option = self.player.session.as_ref().is_some_and(|session| session.f800_protects);
+        let option = self.player.session.as_ref().is_some_and(|session| session.options.any());
         Call::Image(option.then_some(image::OPTIONS_LEN as u64))
     }
 
     /// Half of a session goes to two actions, so that states get deep; the rest to all of them. Where options are drawn, one action in
-    /// eight is about them.
+    /// six is about them.
     fn action(&mut self, favourites: &[Action]) -> Action {
-        if self.recorded.options && self.rng.once_in(8) {
-            return self.rng.pick(OPTION_ACTIONS);
+        if self.recorded.options && self.rng.once_in(6) {
+            let about = self.rng.pick(&OPTION_ACTIONS);
+            return self.rng.pick(about);
         }
         match self.rng.below(8) {
             0..4 => self.rng.pick(favourites),
@@ -135,9 +137,9 @@ impl Generator {
         self.say(Call::Directory);
     }
 
-    /// A load, where options are drawn in either edition.
+    /// A load, where options are drawn with any of them.
     fn say_load(&mut self, load: Load) {
-        let load = if self.recorded.options { loads::in_an_edition(&mut self.rng, load) } else { load };
+        let load = if self.recorded.options { loads::with_options(&mut self.rng, load) } else { load };
         self.say(Call::Load(load));
     }
 

@@ -10,6 +10,7 @@ use crate::{
     directory::Directory,
     image::{self, LENGTHS},
     layout::Load,
+    options::Options,
     refusal::Refusal,
     session::{Ran, Session, Written},
 };
@@ -42,7 +43,7 @@ pub struct Host {
 impl Host {
     /// Lends a state, in range, with its arena, by the shortest image that can hold it.
     pub fn new(session: Session) -> Self {
-        let len = image::lengths(&session)[0];
+        let len = image::lengths(session.options)[0];
         Self::of_length(session, len)
     }
 
@@ -85,7 +86,7 @@ impl Host {
     /// can hold it.
     pub fn edit(&mut self, change: impl FnOnce(&mut Session)) {
         change(&mut self.session);
-        let lengths = image::lengths(&self.session);
+        let lengths = image::lengths(self.session.options);
         let len = if lengths.contains(&self.image.len()) { self.image.len() } else { lengths[0] };
         self.image = image::of_length(&self.session, len);
         self.unread = None;
@@ -99,7 +100,7 @@ impl Host {
     fn accepted(&mut self, call: HostCall) -> Result<u64, Refusal> {
         self.refuse_length()?;
         let word = match call {
-            HostCall::Load(load) => self.load(&Load { f800_protects: 0, ..load }),
+            HostCall::Load(load) => self.load(&load.with(Options::default())),
             HostCall::LoadOptions(load) => {
                 self.refuse_option(&load)?;
                 self.load(&load)
@@ -127,7 +128,7 @@ impl Host {
 
     /// N1 of a load that asks for an option.
     fn refuse_option(&self, load: &Load) -> Result<(), Refusal> {
-        Refusal::ImageLength.when(!image::holds(self.image.len(), load.has_option()))
+        Refusal::ImageLength.when(!image::holds(self.image.len(), load.options()))
     }
 
     fn state(&mut self) -> Result<&mut Session, Refusal> {

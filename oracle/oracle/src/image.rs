@@ -1,9 +1,10 @@
 // SPDX-License-Identifier: MIT OR Apache-2.0
-//! The image, by H1 and H9: 307 bytes, or 308 with a byte of options.
+//! The image, by H1, H9 and H11: 307 bytes, or 308 with a byte of options.
 
 use crate::{
     directory::Directory,
     layout::{Layout, PAGE},
+    options::Options,
     range::in_range,
     refusal::Refusal,
     session::{SOUND_RAM, Session, entry},
@@ -19,12 +20,10 @@ pub const LEN: usize = 307;
 /// H9: with a byte of options.
 pub const OPTIONS_LEN: usize = 308;
 pub const LENGTHS: [usize; 2] = [LEN, OPTIONS_LEN];
-/// H9: the one option.
-pub const F800_PROTECTS: u8 = 0x80;
 
-/// N1: whether so many bytes can be an image, where there is an option to be written or none.
-pub fn holds(len: usize, option: bool) -> bool {
-    len == OPTIONS_LEN || (len == LEN && !option)
+/// N1: whether so many bytes can be an image with these options.
+pub fn holds(len: usize, options: Options) -> bool {
+    len == OPTIONS_LEN || (len == LEN && !options.any())
 }
 
 /// Packs numbers of given widths, most significant bit first.
@@ -56,10 +55,10 @@ impl Packer {
 
 /// Writes the image of a state in range into bytes that can hold it.
 pub fn write(session: &Session, buffer: &mut [u8]) {
-    assert!(holds(buffer.len(), session.f800_protects), "{} bytes cannot hold this state", buffer.len());
+    assert!(holds(buffer.len(), session.options), "{} bytes cannot hold this state", buffer.len());
     buffer[..LEN].copy_from_slice(&encode(session));
     if let Some(options) = buffer.get_mut(LEN) {
-        *options = self::options(session);
+        *options = session.options.byte();
     }
 }
 
@@ -70,14 +69,9 @@ pub fn of_length(session: &Session, len: usize) -> Vec<u8> {
     bytes
 }
 
-/// The lengths that can hold a state.
-pub fn lengths(session: &Session) -> &'static [usize] {
-    if session.f800_protects { &LENGTHS[1..] } else { &LENGTHS }
-}
-
-/// H9: byte 307.
-fn options(session: &Session) -> u8 {
-    if session.f800_protects { F800_PROTECTS } else { 0 }
+/// The lengths that can hold a state with these options.
+pub fn lengths(options: Options) -> &'static [usize] {
+    if options.any() { &LENGTHS[1..] } else { &LENGTHS }
 }
 
 /// The first 307 bytes of the image of a state in range.
@@ -121,6 +115,9 @@ pub const BOARDS: [Board; 4] = [Board::Unknown, Board::Namco163, Board::Namco175
 pub const MIRRORINGS: [Mirroring; 5] =
     [Mirroring::Vertical, Mirroring::Horizontal, Mirroring::SingleScreenA, Mirroring::SingleScreenB, Mirroring::FourScreen];
 
+/// H1: bits of an output.
+const OUTPUT_BITS: u32 = 12;
+
 fn put_audio(packer: &mut Packer, audio: &Audio) {
     packer.all(8, audio.ram.as_ref());
     packer.put(7, audio.addr as u64);
@@ -129,7 +126,7 @@ fn put_audio(packer: &mut Packer, audio: &Audio) {
     packer.put(4, audio.update_counter.into());
     packer.put(3, audio.current_channel as u64);
     for level in audio.channel_out {
-        packer.put(12, level as u64);
+        packer.put(OUTPUT_BITS, (level as i64).rem_euclid(1 << OUTPUT_BITS) as u64);
     }
     packer.put(32, audio.out.to_bits().into());
     packer.all(24, audio.raw_phase_ext());
@@ -176,17 +173,17 @@ impl Unpacker<'_> {
 /// Image reading, refused by N1 and N2: the state of an image, with an arena of no bytes. H9: 307 bytes have no option.
 pub fn decode(bytes: &[u8]) -> Result<Session, Refusal> {
     Refusal::ImageLength.when(!LENGTHS.contains(&bytes.len()))?;
-    let options = bytes.get(LEN).copied().unwrap_or(0);
+    let options = Options::of_byte(bytes.get(LEN).copied().unwrap_or(0)).ok_or(Refusal::OutOfRange)?;
     let mut unpacker = Unpacker { bytes, bit: 0 };
-    let chip = take_chip(&mut unpacker)?;
+    let chip = take_chip(&mut unpacker, options)?;
     let memory = take_memory(&mut unpacker);
     assert_eq!(unpacker.bit, LEN * 8);
-    Refusal::OutOfRange.when(!in_range(&chip, &memory) || options & !F800_PROTECTS != 0)?;
-    Ok(Session { chip, memory, f800_protects: options == F800_PROTECTS, directory: Directory::default() })
+    Refusal::OutOfRange.when(!in_range(&chip, &memory, options))?;
+    Ok(Session { chip, memory, options, directory: Directory::default() })
 }
 
 /// Fields in the image's order, which is the order in which they are written here. A mirroring above 4 has no number in the Rust.
-fn take_chip(unpacker: &mut Unpacker) -> Result<Namco163, Refusal> {
+fn take_chip(unpacker: &mut Unpacker, options: Options) -> Result<Namco163, Refusal> {
     Ok(Namco163 {
         regs: Regs {
             irq_counter: unpacker.take(16) as u16,
@@ -204,11 +201,11 @@ fn take_chip(unpacker: &mut Unpacker) -> Result<Namco163, Refusal> {
         nt_bank_enable: unpacker.all(1).map(|flag| flag == 1),
         chr_banks: unpacker.all(8).map(|bank| bank as u8),
         prg_banks: unpacker.all(6).map(|bank| bank as u8),
-        audio: take_audio(unpacker),
+        audio: take_audio(unpacker, options),
     })
 }
 
-fn take_audio(unpacker: &mut Unpacker) -> Audio {
+fn take_audio(unpacker: &mut Unpacker, options: Options) -> Audio {
     let mut audio = Audio::new();
     audio.ram = unpacker.all(8).map(|byte| byte as u8).into();
     audio.addr = unpacker.take(7) as usize;
@@ -216,10 +213,15 @@ fn take_audio(unpacker: &mut Unpacker) -> Audio {
     audio.disabled = unpacker.flag();
     audio.update_counter = unpacker.take(4) as u8;
     audio.current_channel = unpacker.take(3) as i8;
-    audio.channel_out = unpacker.all(12).map(|level| level as f32);
+    audio.channel_out = unpacker.all(OUTPUT_BITS as usize).map(|field| output(field as i32, options) as f32);
     audio.out = f32::from_bits(unpacker.take(32) as u32);
     *audio.raw_phase_ext_mut() = unpacker.all(24).map(|phase| phase as u32);
     audio
+}
+
+/// H11: an output of its field; two's complement where levels are signed, and only there.
+fn output(field: i32, options: Options) -> i32 {
+    if options.signed_levels && field >> (OUTPUT_BITS - 1) == 1 { field - (1 << OUTPUT_BITS) } else { field }
 }
 
 fn take_memory(unpacker: &mut Unpacker) -> Memory {

@@ -1,6 +1,7 @@
 // SPDX-License-Identifier: MIT OR Apache-2.0
 //! Sizes: in bytes as a load names them (R1), in pages as a state holds them (R2), and where regions lie (R4).
 
+use crate::options::Options;
 use std::ops::Range;
 use tetanes::memory::{Memory, Src};
 
@@ -27,14 +28,21 @@ pub struct Load {
     pub chr: u64,
     pub chr_ram: u64,
     pub ciram: u64,
-    /// L19: the new edition.
+    /// L19, S13: the options.
     pub f800_protects: u64,
+    pub signed_levels: u64,
+    pub plain_sum: u64,
 }
 
 impl Load {
-    /// N1: whether the load asks for an option.
-    pub fn has_option(&self) -> bool {
-        self.f800_protects != 0
+    pub fn options(&self) -> Options {
+        Options { f800_protects: self.f800_protects != 0, signed_levels: self.signed_levels != 0, plain_sum: self.plain_sum != 0 }
+    }
+
+    /// The same cartridge with these options and no others.
+    pub fn with(self, options: Options) -> Self {
+        let Options { f800_protects, signed_levels, plain_sum } = options;
+        Self { f800_protects: f800_protects.into(), signed_levels: signed_levels.into(), plain_sum: plain_sum.into(), ..self }
     }
 
     /// Each size beside its limit.

@@ -8,6 +8,8 @@ pub mod generate;
 pub mod host;
 pub mod image;
 pub mod layout;
+pub mod levels;
+pub mod options;
 pub mod player;
 pub mod range;
 pub mod recut;

@@ -1,21 +1,38 @@
 // SPDX-License-Identifier: MIT OR Apache-2.0
-//! When a state is in range: R9.
+//! When a state is in range: R9, and R11 of its levels.
 
-use crate::layout::{Layout, PAGE};
+use crate::{
+    layout::{Layout, PAGE},
+    options::Options,
+};
+use std::ops::RangeInclusive;
 use tetanes::{
     m019_namco163::{Audio, Namco163},
     memory::{Memory, Page},
 };
 
-pub const LEVEL_LIMIT: f32 = 3825.0;
 const UNUSED_BIT: u32 = 1 << 30;
 const WRITABLE_BIT: u32 = 1 << 31;
 
-pub fn in_range(chip: &Namco163, memory: &Memory) -> bool {
+/// R11: the ends of an output and of `out`.
+pub struct Ends {
+    pub output: RangeInclusive<f32>,
+    pub out: RangeInclusive<f32>,
+}
+
+impl Ends {
+    pub fn of(options: Options) -> Self {
+        let (least, greatest) = if options.signed_levels { (-120.0, 105.0) } else { (0.0, 3825.0) };
+        let channels = if options.plain_sum { 8.0 } else { 1.0 };
+        Self { output: least..=greatest, out: least * channels..=greatest * channels }
+    }
+}
+
+pub fn in_range(chip: &Namco163, memory: &Memory, options: Options) -> bool {
     let layout = Layout::of(memory);
     let mut entries = memory.prg_pages().iter().chain(memory.chr_pages());
     chip_in_range(chip)
-        && audio_in_range(&chip.audio)
+        && audio_in_range(&chip.audio, &Ends::of(options))
         && layout_in_range(&layout)
         && used_in_range(*memory.raw_battery_ext_len(), &layout)
         && entries.all(|page| entry_in_range(*page, &layout))
@@ -25,18 +42,18 @@ fn chip_in_range(chip: &Namco163) -> bool {
     matches!(chip.mapper_num, 19 | 210) && chip.prg_banks.iter().all(|bank| *bank <= 63)
 }
 
-fn audio_in_range(audio: &Audio) -> bool {
+fn audio_in_range(audio: &Audio, ends: &Ends) -> bool {
     audio.addr <= 127
         && audio.update_counter <= 14
         && (0..=7).contains(&audio.current_channel)
-        && audio.channel_out.iter().all(|level| level_in_range(*level) && level.fract() == 0.0)
-        && level_in_range(audio.out)
+        && audio.channel_out.iter().all(|level| level_in_range(*level, &ends.output) && level.fract() == 0.0)
+        && level_in_range(audio.out, &ends.out)
         && audio.raw_phase_ext().iter().all(|phase| *phase < 1 << 24)
 }
 
 /// NaN fails the comparison; negative zero would pass it and is refused by its sign.
-fn level_in_range(level: f32) -> bool {
-    (0.0..=LEVEL_LIMIT).contains(&level) && level.is_sign_positive()
+fn level_in_range(level: f32, ends: &RangeInclusive<f32>) -> bool {
+    ends.contains(&level) && (level != 0.0 || level.is_sign_positive())
 }
 
 fn layout_in_range(layout: &Layout) -> bool {

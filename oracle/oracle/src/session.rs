@@ -1,7 +1,8 @@
 // SPDX-License-Identifier: MIT OR Apache-2.0
 //! A loaded cartridge: the Rust's `Namco163` and `Memory`, and the calls, put together from theirs (L7 to L9), with the refusals N. What
 //! the Rust does is taken as it is, but for what is amended after a remapping (`amend`): without PRG-RAM M5, and in the new edition the
-//! flags at 6000 of a 163 (L20). There, besides, a F800 write to a 163 remaps (L21).
+//! flags at 6000 of a 163 (L20). There, besides, a F800 write to a 163 remaps (L21). Levels and sums that a load chose (S13) are put in
+//! place of the Rust's after each update (`levels`).
 //!
 //! The Rust's `Memory` holds both a part of the state (R8: entries, layout, used length) and the lent arena (`data`). Both can be set
 //! through the accessors, so that a call can be given a state out of range or an arena of another length. The directory of translated
@@ -11,6 +12,8 @@ use crate::{
     directory::{CPU_PAGES, Directory},
     image,
     layout::{Layout, Load, PAGE, Region},
+    levels,
+    options::Options,
     range::in_range,
     refusal::Refusal,
 };
@@ -38,8 +41,8 @@ pub const RAM_WINDOW: Range<usize> = 24..32;
 pub struct Session {
     pub chip: Namco163,
     pub memory: Memory,
-    /// L19: whether it is of the new edition. No call changes it.
-    pub f800_protects: bool,
+    /// L19, S13: what its load chose. No call changes it.
+    pub options: Options,
     pub directory: Directory,
 }
 
@@ -83,16 +86,16 @@ impl Session {
         Refusal::ArenaLength.when(arena_len != layout.arena_len())?;
 
         let mut session = Self::unamended(load);
-        session.f800_protects = load.f800_protects != 0;
+        session.options = load.options();
         session.amend();
         Ok(session)
     }
 
-    /// What the Rust by itself makes of an accepted load; the old edition is its own.
+    /// What the Rust by itself makes of an accepted load; it has no options.
     pub fn unamended(load: &Load) -> Self {
         let mut cart = cart(load);
         let Ok(chip) = Namco163::load(&mut cart);
-        Self { chip, memory: cart.memory, f800_protects: false, directory: Directory::default() }
+        Self { chip, memory: cart.memory, options: Options::default(), directory: Directory::default() }
     }
 
     /// L13, M5, L20: makes both tables anew. It is a step of a load and of a write, and no call; states that are lent are made with it.
@@ -111,7 +114,7 @@ impl Session {
 
     /// L20, L21: whether F800 protects this board as it is now.
     pub fn protects(&self) -> bool {
-        self.f800_protects && self.chip.board == Board::Namco163
+        self.options.f800_protects && self.chip.board == Board::Namco163
     }
 
     pub fn layout(&self) -> Layout {
@@ -228,7 +231,7 @@ impl Session {
         let mut made = Vec::new();
         let mut rise = 0;
         for clock in 1..=clocks {
-            let single = single_clock(&mut chip);
+            let single = single_clock(&mut chip, self.options);
             made.extend(single.sample);
             if single.rise {
                 rise = clock;
@@ -266,14 +269,14 @@ impl Session {
     }
 
     pub fn image(&self, buffer: &mut [u8]) -> Result<(), Refusal> {
-        Refusal::ImageLength.when(!image::holds(buffer.len(), self.f800_protects))?;
+        Refusal::ImageLength.when(!image::holds(buffer.len(), self.options))?;
         self.refuse_state()?;
         image::write(self, buffer);
         Ok(())
     }
 
     fn refuse_state(&self) -> Result<(), Refusal> {
-        Refusal::OutOfRange.when(!in_range(&self.chip, &self.memory))
+        Refusal::OutOfRange.when(!in_range(&self.chip, &self.memory, self.options))
     }
 
     fn refuse_arena(&self) -> Result<(), Refusal> {
@@ -342,10 +345,14 @@ struct SingleClock {
     rise: bool,
 }
 
-fn single_clock(chip: &mut Namco163) -> SingleClock {
+fn single_clock(chip: &mut Namco163, options: Options) -> SingleClock {
     let counter = chip.regs.irq_counter;
     let update = chip.board == Board::Namco163 && !chip.audio.disabled && chip.audio.update_counter == 14;
+    let channel = chip.audio.current_channel as usize;
     chip.clock();
+    if update {
+        levels::amend(&mut chip.audio, channel, options);
+    }
     let now = chip.regs.irq_counter;
     SingleClock { sample: update.then(|| chip.output()), rise: now != counter && now == 0xFFFF }
 }

@@ -5,11 +5,12 @@ use crate::{
     directory::Directory,
     image::{BOARDS, MIRRORINGS},
     layout::{Layout, PAGE},
-    range::LEVEL_LIMIT,
+    options::Options,
+    range::Ends,
     rng::Rng,
     session::{RAM_WINDOW, SOUND_RAM, Session},
 };
-use std::array;
+use std::{array, ops::RangeInclusive};
 use tetanes::{
     m019_namco163::{Audio, Namco163, Regs},
     memory::{Memory, MemoryLayout, Page},
@@ -18,8 +19,9 @@ use tetanes::{
 /// A state in range and an arena of random bytes.
 pub fn any(rng: &mut Rng) -> Session {
     let layout = layout(rng);
-    let (chip, memory) = (chip(rng), memory(rng, &layout));
-    let mut session = Session { chip, memory, f800_protects: rng.once_in(2), directory: Directory::default() };
+    let options = rng.pick(&Options::all());
+    let (chip, memory) = (chip(rng, &Ends::of(options)), memory(rng, &layout));
+    let mut session = Session { chip, memory, options, directory: Directory::default() };
     match rng.below(4) {
         // As a write leaves the entries, or nearly.
         0 => session.remap(),
@@ -56,7 +58,7 @@ fn layout(rng: &mut Rng) -> Layout {
     layout
 }
 
-fn chip(rng: &mut Rng) -> Namco163 {
+fn chip(rng: &mut Rng, ends: &Ends) -> Namco163 {
     Namco163 {
         regs: Regs {
             irq_counter: counter(rng),
@@ -68,7 +70,7 @@ fn chip(rng: &mut Rng) -> Namco163 {
         board: rng.pick(&BOARDS),
         mapper_num: rng.pick(&[19, 210]),
         submapper_num: rng.byte(),
-        audio: audio(rng),
+        audio: audio(rng, ends),
         auto_detect_board: rng.once_in(2),
         mirroring: rng.pick(&MIRRORINGS),
         prg_ram_written_to: rng.once_in(2),
@@ -92,7 +94,7 @@ fn counter(rng: &mut Rng) -> u16 {
     }
 }
 
-fn audio(rng: &mut Rng) -> Audio {
+fn audio(rng: &mut Rng, ends: &Ends) -> Audio {
     let mut audio = Audio::new();
     audio.ram = array::from_fn(|_| rng.byte()).into();
     audio.addr = if rng.once_in(4) { 127 } else { rng.below(128) as usize };
@@ -100,21 +102,23 @@ fn audio(rng: &mut Rng) -> Audio {
     audio.disabled = rng.once_in(4);
     audio.update_counter = rng.below(15) as u8;
     audio.current_channel = rng.below(8) as i8;
-    audio.channel_out = array::from_fn(|_| level(rng) as f32);
-    audio.out = out(rng);
+    audio.channel_out = array::from_fn(|_| output(rng, &ends.output) as f32);
+    audio.out = out(rng, &ends.out);
     *audio.raw_phase_ext_mut() = array::from_fn(|_| if rng.once_in(8) { 0xFF_FFFF } else { rng.below(1 << 24) as u32 });
     audio
 }
 
-fn level(rng: &mut Rng) -> u64 {
-    if rng.once_in(4) { rng.pick(&[0, 1, LEVEL_LIMIT as u64]) } else { rng.between(0, LEVEL_LIMIT as u64) }
+fn output(rng: &mut Rng, ends: &RangeInclusive<f32>) -> i64 {
+    let (least, greatest) = (*ends.start() as i64, *ends.end() as i64);
+    if rng.once_in(4) { rng.pick(&[0, 1, least, greatest]) } else { least + rng.between(0, (greatest - least) as u64) as i64 }
 }
 
-/// Any float from 0 up to the limit, by its bits: the smallest ones, too.
-fn out(rng: &mut Rng) -> f32 {
-    let last = LEVEL_LIMIT.to_bits();
-    let bits = if rng.once_in(4) { rng.pick(&[0, 1, last - 1, last]) } else { rng.between(0, last.into()) as u32 };
-    f32::from_bits(bits)
+/// Any float between the ends, by its bits: the smallest ones, too, but never -0.
+fn out(rng: &mut Rng, ends: &RangeInclusive<f32>) -> f32 {
+    let end = if *ends.start() < 0.0 && rng.once_in(2) { *ends.start() } else { *ends.end() };
+    let (first, last) = (u32::from(end < 0.0), end.abs().to_bits());
+    let bits = if rng.once_in(4) { rng.pick(&[first, 1, last - 1, last]) } else { rng.between(first.into(), last.into()) as u32 };
+    f32::from_bits(bits).copysign(end)
 }
 
 fn memory(rng: &mut Rng, layout: &Layout) -> Memory {

@@ -2,8 +2,8 @@
 //! The replay program's language: one call a line.
 
 use crate::{
-    image::F800_PROTECTS,
     layout::{Load, Region},
+    options::Options,
 };
 use std::fmt;
 
@@ -109,13 +109,10 @@ impl<'a> Words<'a> {
         if self.words.clone().next().is_some() { number(self).map(Some) } else { Ok(None) }
     }
 
-    /// H9: the bits of an image's byte 307.
-    fn options(&mut self) -> Result<u64, String> {
-        match self.number("the options")? {
-            0 => Ok(0),
-            options if options == F800_PROTECTS.into() => Ok(1),
-            _ => Err("the options have a bit other than $80".into()),
-        }
+    /// H9, H11: the bits of an image's byte 307.
+    fn options(&mut self) -> Result<Options, String> {
+        let byte = u8::try_from(self.number("the options")?);
+        byte.ok().and_then(Options::of_byte).ok_or("the options have a bit other than $80, $40 and $20".into())
     }
 
     fn region(&mut self) -> Result<Region, String> {
@@ -186,7 +183,7 @@ fn register(words: &mut Words) -> Result<Call, String> {
 }
 
 fn load(words: &mut Words) -> Result<Load, String> {
-    Ok(Load {
+    let load = Load {
         mapper: words.number("the mapper")?,
         submapper: words.byte("the submapper")?,
         flags: words.byte("the flags")?,
@@ -197,8 +194,9 @@ fn load(words: &mut Words) -> Result<Load, String> {
         chr: words.number("the CHR")?,
         chr_ram: words.number("the CHR-RAM flag")?,
         ciram: words.number("the CIRAM")?,
-        f800_protects: words.maybe(Words::options)?.unwrap_or(0),
-    })
+        ..Load::default()
+    };
+    Ok(load.with(words.maybe(Words::options)?.unwrap_or_default()))
 }
 
 impl fmt::Display for Call {
@@ -232,9 +230,9 @@ impl fmt::Display for Call {
 }
 
 fn write_load(f: &mut fmt::Formatter<'_>, load: &Load) -> fmt::Result {
-    let Load { mapper, submapper, flags, in_database, prg_rom, prg_ram, battery, chr, chr_ram, ciram, f800_protects } = load;
+    let Load { mapper, submapper, flags, in_database, prg_rom, prg_ram, battery, chr, chr_ram, ciram, .. } = load;
     write!(f, "load {mapper} {submapper} ${flags:02X} {in_database} {prg_rom} {prg_ram} {battery} {chr} {chr_ram} {ciram}")?;
-    if *f800_protects != 0 { write!(f, " ${F800_PROTECTS:02X}") } else { Ok(()) }
+    if load.options().any() { write!(f, " ${:02X}", load.options().byte()) } else { Ok(()) }
 }
 
 /// Bytes as upper case digits.

@@ -8,4 +8,4 @@ remap_banks-requires c = rw c.memory_at_load-fresh.ensures (sized-load _ _ c.req
 
 pub returns : goal.returns
 unfolding fresh_state
-returns c = rw (c.remap_banks.ensures, c.memory_at_load-fresh.ensures, c.load-chip.ensures)
+returns c = rw (c.remap_banks.ensures, c.memory_at_load-fresh.ensures, c.chosen-chip.ensures, c.load-board.ensures)

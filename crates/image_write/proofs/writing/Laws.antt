@@ -2,18 +2,18 @@
 use mathlib.Core.Path.{◌≡◌, refl, sym, ap, ◌∙◌}
 use mathlib.Core.Bool.{Bool, true, false, not, ◌&&◌, ◌||◌}
 use mathlib.Core.List.{List, [], ◌∷◌, ◌++◌}
-use Prim.Native.Nat.{ℕ, zero, suc, ◌*◌, ◌≤◌}
+use Prim.Native.Nat.{ℕ, zero, suc, ◌≤◌}
 use native.Mathlib.Omega.{arith}
 use borrow.Author.Tests.{ne_eqb, eqb-true}
 use lib.Dec.{eqb}
 use lib.ListN.{length, set, drop, length-drop, length-append}
-use Rattle.bits.specs.Fields.{bit, total, pack}
+use Rattle.bits.specs.Fields.{pack}
 use Rattle.bits.proofs.words.Laws.{length-bytes}
 use Rattle.board_state.specs.declared.State.{State}
-use Rattle.board_state.specs.State.{in_range}
+use Rattle.board_state.specs.State.{options_in, in_range}
 use Rattle.call_refusals.specs.Refusals.{first_of}
 use Rattle.image_write.specs.Image.{image_bytes, widths, fields, image_of}
-use Rattle.image_write.specs.Options.{options_image_bytes, options_byte, image_at, option_set, room_for, Room, short, long}
+use Rattle.image_write.specs.Options.{options_image_bytes, option_widths, option_fields, options_byte, image_at, option_set, room_for, Room, short, long}
 use Rattle.image_write.specs.Writing.{write_refusal, written_image}
 
 -- ---- lengths
@@ -84,10 +84,6 @@ module _ (s : State) where
   unfolding image_at
   image-long n e = rw e
 
-  pub byte-is : options_byte s ≡ bit s.f800_protects * 128
-  unfolding options_byte pack total
-  byte-is = omega arith
-
 -- the last byte stored behind others
 set_last : (xs ys : List ℕ) (n v : ℕ) → length xs ≡ n → length ys ≡ 1 → set (xs ++ ys) n v ≡ xs ++ (v ∷ [])
 set_last [] [] n v e f = absurd (omega arith)
@@ -103,11 +99,12 @@ pub length-put : (s : State) (img new : List ℕ) → image_bytes ≤ length img
 length-put s img new h e =
     omega (arith, length-append new (drop image_bytes img), length-drop image_bytes img, ap length e ∙ length-image s)
 
-pub put-long : (s : State) (img : List ℕ) (v : ℕ) → length img ≡ options_image_bytes → v ≡ bit s.f800_protects * 128
+pub put-long : (s : State) (img : List ℕ) (v : ℕ) → length img ≡ options_image_bytes → v ≡ pack option_widths (option_fields (options_in s))
     → set (image_of s ++ drop image_bytes img) image_bytes v ≡ image_at (length img) s
+unfolding options_byte
 put-long s img v l e =
     set_last (image_of s) (drop image_bytes img) image_bytes v (length-image s) (rw (length-drop, l))
-    ∙ ap (λ (b : ℕ). image_of s ++ (b ∷ [])) (e ∙ sym (byte-is s))
+    ∙ ap (λ (b : ℕ). image_of s ++ (b ∷ [])) e
     ∙ sym (image-long s (length img) l)
 
 -- ---- the answers

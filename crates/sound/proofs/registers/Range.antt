@@ -26,10 +26,10 @@ ram-typed a ram l b t =
     }
 
 pub ram-range : (a : Audio) (ram : List ℕ) → InRange a → InRange (with_ram a ram)
-ram-range a ram r = other-range a _ r.counter r.channel r.address refl refl refl r
+ram-range a ram r = other-range a _ r.counter r.channel r.address refl refl refl refl refl r
 
 addr-range : (a : Audio) (x : ℕ) (auto : Bool) → x ≤ address_most → InRange a → InRange (with_addr a x auto)
-addr-range a x auto h r = other-range a _ r.counter r.channel h refl refl refl r
+addr-range a x auto h r = other-range a _ r.counter r.channel h refl refl refl refl refl r
 
 pub advanced-typed : (a : Audio) → Typed a → Typed (advanced a)
 unfolding advanced
@@ -69,6 +69,6 @@ written-range a addr val r = go (within 0x4800 0x4FFF addr) (within 0xE000 0xE7F
         (cond x (advanced (with_ram a (set a.ram a.addr val)))
         (cond y (with_disabled a (eqb (val / 64 % 2) 1)) (cond z (with_addr a (val % 128) (eqb (val / 128) 1)) a)))
     go true y z = advanced-range _ (ram-range a _ r)
-    go false true z = other-range a _ r.counter r.channel r.address refl refl refl r
+    go false true z = other-range a _ r.counter r.channel r.address refl refl refl refl refl r
     go false false true = addr-range a _ _ (omega arith) r
     go false false false = r

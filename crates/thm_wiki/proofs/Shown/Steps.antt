@@ -38,7 +38,7 @@ use Rattle.board_state.specs.declared.Options.{Options}
 use Rattle.board_state.specs.declared.State.{State}
 use Rattle.call_cpu.specs.Calls.{write_register}
 use Rattle.call_run.specs.Clock.{chip_clock}
-use Rattle.call_load.specs.Cartridge.{memory_at_load, fresh_state}
+use Rattle.call_load.specs.Cartridge.{chosen, memory_at_load, fresh_state}
 use Rattle.thm_range.proofs.Calls.{memory-load}
 use Rattle.thm_wiki.specs.Shown.{ram_entry, ram_writable, Mapped}
 use Rattle.thm_wiki.proofs.Tests.{never}
@@ -227,4 +227,5 @@ pub load-mapped : (mapper sub flags : ℕ) (known : Bool) (sizes : MemoryLayout)
     → let s = fresh_state mapper sub flags known sizes options in Mapped s.f800_protects s.chip s.memory
 unfolding fresh_state
 load-mapped mapper sub flags known sizes options =
-    remap-maps options.f800_protects (chip_at_load mapper sub flags known) (memory_at_load mapper sizes) (memory-load mapper sizes)
+    remap-maps options.f800_protects (chosen (chip_at_load mapper sub flags known) options) (memory_at_load mapper sizes)
+    (memory-load mapper sizes)

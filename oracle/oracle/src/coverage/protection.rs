@@ -78,7 +78,7 @@ pub fn classes() -> Vec<String> {
 pub fn observe(played: &Played, counter: &mut Counter) {
     match played.call {
         Call::Load(load) => {
-            let edition = EDITIONS[usize::from(load.f800_protects != 0)];
+            let edition = EDITIONS[usize::from(load.options().f800_protects)];
             if let (true, Some(after)) = (played.accepted(), played.after) {
                 loaded(after, edition, counter);
             } else {
@@ -92,7 +92,7 @@ pub fn observe(played: &Played, counter: &mut Counter) {
         _ => (),
     }
     if let (Some(before), Some(after), false) = (played.before, played.after, matches!(played.call, Call::Load(_))) {
-        counter.never(before.f800_protects != after.f800_protects, "a call that changes the edition");
+        counter.never(before.options != after.options, "a call that changes an option");
     }
 }
 
@@ -106,13 +106,13 @@ fn loaded(after: &View, edition: &str, counter: &mut Counter) {
 /// N1: accepted where the length holds the state.
 fn image(played: &Played, length: Option<u64>, counter: &mut Counter) {
     let Some(before) = played.before else { return };
-    let edition = EDITIONS[usize::from(before.f800_protects)];
+    let edition = EDITIONS[usize::from(before.options.f800_protects)];
     match length {
         None => counter.hit(format!("image alone, {edition} edition")),
         Some(length) => counter.hit_if(IMAGES.contains(&length), format!("image {length}, {edition} edition")),
     }
     let fits = match length.unwrap_or(LEN as u64) as usize {
-        LEN => !before.f800_protects,
+        LEN => !before.options.any(),
         length => length == OPTIONS_LEN,
     };
     counter.never(played.accepted() != fits, "an image of a length that does not hold it, or a refused one that would");
@@ -120,7 +120,7 @@ fn image(played: &Played, length: Option<u64>, counter: &mut Counter) {
 
 /// Whether F800 protects a board as it is.
 fn protects(view: &View) -> bool {
-    view.f800_protects && view.chip.board == Board::Namco163
+    view.options.f800_protects && view.chip.board == Board::Namco163
 }
 
 /// The flags of the four parts, each by its first entry.
@@ -148,14 +148,14 @@ fn write(played: &Played, addr: u16, val: u8, counter: &mut Counter) {
         store(before, after, addr, counter);
     }
     let regs = &after.chip.regs;
-    if after.f800_protects && after.board() == "175" && regs.prg_ram_protect >> 4 == 4 && after.layout.prg_ram > 0 {
+    if after.options.f800_protects && after.board() == "175" && regs.prg_ram_protect >> 4 == 4 && after.layout.prg_ram > 0 {
         counter.hit(if open(after)[0] { "an open 175 with a byte of 40..4F" } else { "a protected 175 with a byte of 40..4F" });
     }
 }
 
 fn f800(before: &View, after: &View, val: u8, counter: &mut Counter) {
     let behind_reset = before.board() == "163" && stale(before);
-    if !after.f800_protects {
+    if !after.options.f800_protects {
         let flags = before.board() == "163" && before.layout.prg_ram > 0;
         counter.hit_if(flags, "F800 on a 163 in the old edition changes no flag");
         counter.hit_if(behind_reset, "F800 behind a reset leaves CHR 8..15, in the old edition");

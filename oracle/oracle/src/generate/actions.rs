@@ -2,10 +2,10 @@
 //! What a session does. An action says a few calls that belong together.
 
 mod blocks;
+mod levels;
 mod protection;
 
 pub use blocks::fill_up;
-pub use protection::OPTION_ACTIONS;
 
 use super::{Generator, loads};
 use crate::{
@@ -45,6 +45,9 @@ pub const ACTIONS: &[(u64, Action)] = &[
     (3, blocks::look_up),
     (3, blocks::register_any),
 ];
+
+/// Actions about the options, by what they choose.
+pub const OPTION_ACTIONS: [&[Action]; 2] = [protection::PROTECTION_ACTIONS, levels::LEVEL_ACTIONS];
 
 pub fn weighted(rng: &mut Rng) -> Action {
     let total = ACTIONS.iter().map(|(weight, _)| weight).sum();

@@ -3,6 +3,7 @@
 
 use crate::{
     layout::{CHR_LIMIT, Load, PAGE, PRG_RAM_LIMIT, PRG_ROM_LIMIT},
+    options::Options,
     rng::Rng,
 };
 
@@ -13,12 +14,12 @@ const CIRAM_BYTES: [u64; 9] = [0, 1, 1_024, 1_025, 2_048, 2_049, 3_072, 3_073, 4
 const RESERVES: [u64; 5] = [0, 1, 127, 128, 1_024];
 const FLAGS: [u8; 8] = [0x00, 0x01, 0x08, 0x09, 0xF6, 0xF7, 0xFE, 0xFF];
 
-/// L19: the same load, as often in the new edition as in the old one.
-pub fn in_an_edition(rng: &mut Rng, load: Load) -> Load {
-    Load { f800_protects: rng.below(2), ..load }
+/// L19, S13: the same load with options, each of the eight sets as often.
+pub fn with_options(rng: &mut Rng, load: Load) -> Load {
+    load.with(rng.pick(&Options::all()))
 }
 
-/// In the old edition.
+/// Without options.
 pub fn accepted(rng: &mut Rng) -> Load {
     let sizes = match rng.below(16) {
         0..7 => usual(rng),

@@ -22,6 +22,8 @@ pub const P: Load = Load {
     chr_ram: 0,
     ciram: 2_048,
     f800_protects: 0,
+    signed_levels: 0,
+    plain_sum: 0,
 };
 /// L3: P in no database, a 163 that detects.
 pub const D: Load = Load { in_database: 0, ..P };
@@ -142,8 +144,8 @@ impl Handy for Session {
     fn whole(&self) -> String {
         let (chip, memory) = (&self.chip, &self.memory);
         format!(
-            "{chip:?} {} {:?} {memory:?} {:?} {:?} {} {:?} {:?}",
-            self.f800_protects,
+            "{chip:?} {:?} {:?} {memory:?} {:?} {:?} {} {:?} {:?}",
+            self.options,
             chip.audio.ram.as_ref() as &[u8],
             memory.prg_pages(),
             memory.chr_pages(),

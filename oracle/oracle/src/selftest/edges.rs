@@ -1,10 +1,11 @@
 // SPDX-License-Identifier: MIT OR Apache-2.0
 //! Results at the edges of the clauses of docs/SCOPE.md, on the Rust: a file for each letter, one for L11, one for L18, one for the new
-//! edition, and one for M5 without PRG-RAM.
+//! edition, one for signed levels and plain sums, and one for M5 without PRG-RAM.
 
 mod blocks;
 mod clock;
 mod host;
+mod levels;
 mod load;
 mod memory;
 mod no_ram;
@@ -17,7 +18,7 @@ mod sound;
 
 use super::checks::Check;
 
-pub const SECTIONS: [(&str, Check); 12] = [
+pub const SECTIONS: [(&str, Check); 13] = [
     ("R: records", records::check),
     ("M: memory", memory::check),
     ("M5: carts without PRG-RAM", no_ram::check),
@@ -26,6 +27,7 @@ pub const SECTIONS: [(&str, Check); 12] = [
     ("L18: previews", preview::check),
     ("L19 to L24: the new edition", protection::check),
     ("S: sound", sound::check),
+    ("S13 to S17: signed levels and plain sums", levels::check),
     ("C: clocks, reset, battery", clock::check),
     ("H: host and image", host::check),
     ("N: refused calls", refusals::check),

@@ -6,6 +6,7 @@ use oracle::{
     compare::{compare, lines},
     coverage::Coverage,
     generate::{Recorded, generate},
+    options::Options,
     player::Player,
     recut::recut,
     stretches::Trace,
@@ -25,6 +26,8 @@ pub fn coverage(t: &mut Checks) {
     let (without, loads) = (coverage.counts["load with PRG-RAM of 0 pages"], coverage.counts["load accepted"]);
     t.holds("a tenth of the accepted loads or more have no PRG-RAM", 10 * without >= loads);
     println!("coverage: {without} of {loads} accepted loads have no PRG-RAM");
+    let with = |options: Options| coverage.counts[&format!("load with options {:02X}", options.byte())];
+    t.holds("each set of options is in a tenth of them or more", Options::all().into_iter().all(|options| 10 * with(options) >= loads));
     if let Some((class, count)) = coverage.rarest() {
         println!("coverage: {} classes in {COVERAGE_CALLS} calls, the rarest {count} times ({class})", coverage.counts.len());
     }
@@ -78,7 +81,8 @@ pub fn recuts(t: &mut Checks) {
 
 /// Loads with an option and images of a said length: many or, where no option is drawn, none; and as many in another cut.
 fn options_stay(t: &mut Checks, calls: &[u8], options: bool) {
-    let of_an_option = |line: &&[u8]| line.starts_with(b"image ") || (line.starts_with(b"load ") && line.ends_with(b" $80"));
+    let spaces = |line: &[u8]| line.iter().filter(|byte| **byte == b' ').count();
+    let of_an_option = |line: &&[u8]| line.starts_with(b"image ") || (line.starts_with(b"load ") && spaces(line) == 11);
     let count = |list: &[u8]| lines(list).filter(of_an_option).count();
     t.holds("options", if options { count(calls) > 50 } else { count(calls) == 0 });
     t.eq("options in another cut", count(&recut(calls, 0)), count(calls));

@@ -8,6 +8,7 @@ use super::{
 };
 use oracle::{
     image::{LEN, OPTIONS_LEN, decode, encode, lengths, of_length},
+    options::Options,
     range::in_range,
     rng::Rng,
     session::Session,
@@ -160,9 +161,9 @@ fn round_trips(t: &mut Checks) {
     let mut rng = Rng::new(1);
     for _ in 0..500 {
         let mut session = states::any(&mut rng);
-        t.holds("a random state is in range", in_range(&session.chip, &session.memory));
+        t.holds("a random state is in range", in_range(&session.chip, &session.memory, session.options));
         session.lend_arena(Box::default());
-        for len in lengths(&session) {
+        for len in lengths(session.options) {
             let image = of_length(&session, *len);
             let read = decode(&image);
             t.holds("a random state is read back", read.as_ref().is_ok_and(|read| read.whole() == session.whole()));
@@ -186,35 +187,34 @@ pub fn options(t: &mut Checks) {
             let mut other = image.clone();
             other[LEN] = byte;
             let read = decode(&other);
-            t.eq(&format!("{what}, byte 307 = {byte:02X}"), refusal(decode(&other)), if byte & 0x7F == 0 { 0 } else { 2 });
-            t.holds("written as it was", read.is_ok_and(|read| of_length(&read, OPTIONS_LEN) == other) == (byte & 0x7F == 0));
+            t.eq(&format!("{what}, byte 307 = {byte:02X}"), refusal(decode(&other)), if byte & 0x1F == 0 { 0 } else { 2 });
+            t.holds("written as it was", read.is_ok_and(|read| of_length(&read, OPTIONS_LEN) == other) == (byte & 0x1F == 0));
         }
     }
     let state = |bytes: &[u8]| decode(bytes).map(|read| read.whole()).map_err(|refusal| refusal.number());
     let long = of_length(&old, OPTIONS_LEN);
     t.holds("cut, with byte 307 zero", state(&long[..LEN]).is_ok() && state(&long[..LEN]) == state(&long));
     let cut = decode(&of_length(&new, OPTIONS_LEN)[..LEN]);
-    t.eq("cut, with an option: another state", cut.is_ok_and(|cut| !cut.f800_protects && cut.prg(24..32) == new.prg(24..32)), true);
+    t.eq("cut, with an option: another state", cut.is_ok_and(|cut| !cut.options.any() && cut.prg(24..32) == new.prg(24..32)), true);
     lengths_to_write(t);
 }
 
-/// N1, N2: a state in range and one out of it, with an option and without, into so many bytes.
+/// N1, N2: a state in range and one out of it, with each set of options, into so many bytes.
 fn lengths_to_write(t: &mut Checks) {
     let bad = |mut session: Session| {
         session.chip.audio.update_counter = 15;
         session
     };
-    let (old, new) = (loaded(P), loaded(new_edition(P)));
-    for (what, session, answers) in [
-        ("in range, no option", old.clone(), [0, 0]),
-        ("in range, an option", new.clone(), [1, 0]),
-        ("bad, no option", bad(old), [2, 2]),
-        ("bad, an option", bad(new), [1, 2]),
-    ] {
-        for (len, answer) in [(0, 1), (306, 1), (307, answers[0]), (308, answers[1]), (309, 1), (1_024, 1)] {
-            let mut buffer = vec![0xEE; len];
-            t.eq(&format!("{what}, {len} bytes"), refusal(session.image(&mut buffer)), answer);
-            t.holds("a refused image is unaltered", answer == 0 || buffer == vec![0xEE; len]);
+    for options in Options::all() {
+        let state = loaded(P.with(options));
+        for (what, session, answer) in [("in range", state.clone(), 0), ("bad", bad(state), 2)] {
+            let short = if options.any() { 1 } else { answer };
+            for (len, answer) in [(0, 1), (306, 1), (307, short), (308, answer), (309, 1), (1_024, 1)] {
+                let mut buffer = vec![0xEE; len];
+                t.eq(&format!("{what}, {options:?}, {len} bytes"), refusal(session.image(&mut buffer)), answer);
+                t.holds("a refused image is unaltered", answer == 0 || buffer == vec![0xEE; len]);
+                t.eq("byte 307", buffer.get(LEN).copied().filter(|_| answer == 0), (len == 308 && answer == 0).then_some(options.byte()));
+            }
         }
     }
 }

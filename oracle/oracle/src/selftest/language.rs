@@ -7,7 +7,7 @@ use super::{
 };
 use oracle::{
     compare::compare,
-    layout::Region,
+    layout::{Load, Region},
     player::{NO_CARTRIDGE, Player, adler32, is_free_error},
     text::{Call, LINE_LIMIT, Line, parse},
 };
@@ -57,6 +57,12 @@ fn numbers(t: &mut Checks) {
         ("load 19 0 0 1 32768 8192 128 8192 0 2048 0", Call::Load(P)),
         ("load 19 0 0 1 32768 8192 128 8192 0 2048 $80", Call::Load(new_edition(P))),
         ("load 19 0 0 1 32768 8192 128 8192 0 2048 128", Call::Load(new_edition(P))),
+        ("load 19 0 0 1 32768 8192 128 8192 0 2048 $40", Call::Load(Load { signed_levels: 1, ..P })),
+        ("load 19 0 0 1 32768 8192 128 8192 0 2048 32", Call::Load(Load { plain_sum: 1, ..P })),
+        ("load 19 0 0 1 32768 8192 128 8192 0 2048 $60", Call::Load(Load { signed_levels: 1, plain_sum: 1, ..P })),
+        ("load 19 0 0 1 32768 8192 128 8192 0 2048 $A0", Call::Load(Load { plain_sum: 1, ..new_edition(P) })),
+        ("load 19 0 0 1 32768 8192 128 8192 0 2048 $00c0", Call::Load(Load { signed_levels: 1, ..new_edition(P) })),
+        ("load 19 0 0 1 32768 8192 128 8192 0 2048 224", Call::Load(Load { signed_levels: 1, plain_sum: 1, ..new_edition(P) })),
     ] {
         t.eq(line, parse(line.as_bytes()), Line::Call(call));
     }
@@ -65,7 +71,7 @@ fn numbers(t: &mut Checks) {
     }
 }
 
-const MALFORMED: [&str; 58] = [
+const MALFORMED: [&str; 65] = [
     " ",
     "jump",
     "Read $8000",
@@ -115,8 +121,15 @@ const MALFORMED: [&str; 58] = [
     "image 18446744073709551616",
     "image 308 308",
     "image -1",
-    "load 19 0 0 1 0 0 128 0 0 0 $40",
+    "load 19 0 0 1 0 0 128 0 0 0 $10",
+    "load 19 0 0 1 0 0 128 0 0 0 $08",
+    "load 19 0 0 1 0 0 128 0 0 0 $04",
+    "load 19 0 0 1 0 0 128 0 0 0 $02",
     "load 19 0 0 1 0 0 128 0 0 0 1",
+    "load 19 0 0 1 0 0 128 0 0 0 $E1",
+    "load 19 0 0 1 0 0 128 0 0 0 $FF",
+    "load 19 0 0 1 0 0 128 0 0 0 $140",
+    "load 19 0 0 1 0 0 128 0 0 0 $120",
     "load 19 0 0 1 0 0 128 0 0 0 $181",
     "load 19 0 0 1 0 0 128 0 0 0 $180",
     "load 19 0 0 1 0 0 128 0 0 0 $10000000000000080",

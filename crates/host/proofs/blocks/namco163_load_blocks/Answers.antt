@@ -5,13 +5,14 @@ use lib.ListN.{length}
 use Rattle.refusals.proofs.Numbers.{numbered, passed}
 use borrow.Author.Rules.{rules}
 use Rattle.memory.specs.declared.layout.MemoryLayout.{MemoryLayout}
+use Rattle.board_state.specs.State.{any_option}
 use Rattle.call_refusals.specs.Refusals.{load_checks}
 use Rattle.image_write.specs.Options.{image_at}
 use Rattle.call_blocks.specs.Blocks.{places_check, load_leaves, load_drops}
 use Rattle.host_state.proofs.Laws.{called, word_of, image-of, lent_of}
 use Rattle.host.specs.Host.{yes, sizes_of, options_of, load_gives}
 use Rattle.host.specs.Blocks.{load_blocks_checks, host_load_blocks}
-use Rattle.host.proofs.Laws.{no_room, load-known, load_fresh, room-fresh}
+use Rattle.host.proofs.Laws.{asked, no_room, load-known, load_fresh, room-fresh}
 use Rattle.host.proofs.WithDirectory.{places-stay, load-blocks}
 use Rattle.host.proofs.blocks.namco163_load_blocks.Goals as goal
 
@@ -21,11 +22,11 @@ unfolding host_load_blocks
 returns-then-not-room_for c =
     let a = c.args in
     let sizes = sizes_of a.prg_rom a.prg_ram a.battery a.chr a.chr_ram a.ciram in
-    let options = options_of a.f800_protects in
+    let options = options_of a.f800_protects a.signed_levels a.plain_sum in
     let given = load_gives (length a.image.now) a.arena.now a.mapper a.submapper a.flags a.in_database sizes options in
-    let none = sym c.room_for.ensures ∙ c.if-not-room_for.true in
+    let none = sym (asked options _ _ (length a.image.now) (c.any.ensures ∙ ap any_option c.options_of-options.ensures) c.room_for.ensures) ∙ c.if-not-room_for.true in
     let own = places_check a.directory.now ∷ load_checks a.mapper sizes (length a.arena.now) in
-    let e = no_room options.f800_protects a.image.now own a.arena.now given none in
+    let e = no_room (any_option options) a.image.now own a.arena.now given none in
     let kept = places-stay a.image.now a.arena.now a.directory.now a.mapper sizes options none in
     record { value = word_of e; image_after = image-of e; arena_after = lent_of e; directory_after = kept }
 
@@ -35,12 +36,12 @@ unfolding host_load_blocks
 returns-in_err-fresh c =
     let a = c.args in
     let sizes = sizes_of a.prg_rom a.prg_ram a.battery a.chr a.chr_ram a.ciram in
-    let options = options_of a.f800_protects in
+    let options = options_of a.f800_protects a.signed_levels a.plain_sum in
     let given = load_gives (length a.image.now) a.arena.now a.mapper a.submapper a.flags a.in_database sizes options in
     let load = c.in_err-fresh.ensures in
-    let room-here = sym c.room_for.ensures ∙ c.if-not-room_for.false in
+    let room-here = sym (asked options _ _ (length a.image.now) (c.any.ensures ∙ ap any_option c.options_of-options.ensures) c.room_for.ensures) ∙ c.if-not-room_for.false in
     let loaded = load-blocks a.image.now a.arena.now a.directory.now a.mapper a.submapper a.flags (yes a.in_database) sizes options
-    _ room-here (rw c.sizes_of.ensures at load.value) in
+    _ room-here (rw (c.sizes_of.ensures, c.options_of-options.ensures) at load.value) in
     let checks = load_blocks_checks a.image.now a.arena.now a.directory.now a.mapper sizes options in
     let call = called checks a.image.now a.arena.now given given _ loaded.number refl in
     let arena-left = ap (λ (x : MemoryLayout). load_leaves a.directory.now a.mapper x a.arena.now) c.sizes_of.ensures in
@@ -57,10 +58,10 @@ pub put_image-requires : goal.put_image-requires
 put_image-requires c =
     let a = c.args in
     let sizes = sizes_of a.prg_rom a.prg_ram a.battery a.chr a.chr_ram a.ciram in
-    let options = options_of a.f800_protects in
-    let room-here = sym c.room_for.ensures ∙ c.if-not-room_for.false in
+    let options = options_of a.f800_protects a.signed_levels a.plain_sum in
+    let room-here = sym (asked options _ _ (length a.image.now) (c.any.ensures ∙ ap any_option c.options_of-options.ensures) c.room_for.ensures) ∙ c.if-not-room_for.false in
     let loaded = load-blocks a.image.now a.arena.now a.directory.now a.mapper a.submapper a.flags (yes a.in_database) sizes options
-    _ room-here (rw c.sizes_of.ensures at c.in_ok-fresh.ensures.value) in
+    _ room-here (rw (c.sizes_of.ensures, c.options_of-options.ensures) at c.in_ok-fresh.ensures.value) in
     let own = loaded.own-load refl in (
       room-fresh a.mapper a.submapper a.flags (yes a.in_database) sizes options a.arena.now _ own refl (length a.image.now) room-here,
       load-known a.mapper a.submapper a.flags (yes a.in_database) sizes options a.arena.now _ own (search rules) refl,
@@ -71,12 +72,12 @@ unfolding host_load_blocks
 returns c =
     let a = c.args in
     let sizes = sizes_of a.prg_rom a.prg_ram a.battery a.chr a.chr_ram a.ciram in
-    let options = options_of a.f800_protects in
+    let options = options_of a.f800_protects a.signed_levels a.plain_sum in
     let given = load_gives (length a.image.now) a.arena.now a.mapper a.submapper a.flags a.in_database sizes options in
     let load = c.in_ok-fresh.ensures in
-    let room-here = sym c.room_for.ensures ∙ c.if-not-room_for.false in
+    let room-here = sym (asked options _ _ (length a.image.now) (c.any.ensures ∙ ap any_option c.options_of-options.ensures) c.room_for.ensures) ∙ c.if-not-room_for.false in
     let loaded = load-blocks a.image.now a.arena.now a.directory.now a.mapper a.submapper a.flags (yes a.in_database) sizes options
-    _ room-here (rw c.sizes_of.ensures at load.value) in
+    _ room-here (rw (c.sizes_of.ensures, c.options_of-options.ensures) at load.value) in
     let checks = load_blocks_checks a.image.now a.arena.now a.directory.now a.mapper sizes options in
     let call = called checks a.image.now a.arena.now given given _ loaded.number refl in
     let arena-left = ap (λ (x : MemoryLayout). load_leaves a.directory.now a.mapper x a.arena.now) c.sizes_of.ensures in

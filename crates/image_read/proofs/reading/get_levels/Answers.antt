@@ -4,7 +4,7 @@ use Prim.Native.Nat.{◌-◌}
 use lib.ListN.{replicate}
 use Rattle.bits.specs.Fields.{total}
 use mathlib.Core.List.{map}
-use Rattle.sound.specs.Levels.{whole}
+use Rattle.image_read.specs.Reading.{output_from}
 use Rattle.bits.proofs.Fields.{fit-below}
 use Rattle.image_write.specs.Sections.{levels_at, out_at}
 use Rattle.image_read.proofs.Sections.{section-is}
@@ -16,6 +16,6 @@ levels_of-requires c = fit-below 8 12 c.get_run.new.xs c.get_run.ensures.fit
 
 pub returns : goal.returns
 unfolding total
-returns c = c.levels_of.ensures ∙ ap (map whole)
+returns c = c.levels_of.ensures ∙ ap (map (output_from c.args.signed))
     (sym (section-is c.args.img.now levels_at (out_at - levels_at) (omega arith) _ (replicate 8 12) _ refl
     (rw c.at_byte.ensures at c.get_run.ensures)))

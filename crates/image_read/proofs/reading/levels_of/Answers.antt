@@ -2,7 +2,7 @@
 use Rattle.std.proofs.Common.{◌≡◌, ◌<◌, ℕ, length, get_or, subst, sym, ◌∙◌, arith, rules}
 use Rattle.std.proofs.lemmas.Iterator.Adapters.{serves_from_places}
 use Rattle.std.proofs.lemmas.Grind.{get_or_default_zero}
-use Rattle.sound.specs.Levels.{whole}
+use Rattle.image_read.specs.Reading.{output_from}
 use Rattle.image_read.proofs.Arrays.{list_road, mapped_is}
 use Rattle.image_read.proofs.reading.levels_of.Goals as goal
 
@@ -22,4 +22,4 @@ map-requires c =
     )
 
 pub returns : goal.returns
-returns c = mapped_is c.map.ensures.items (search rules) 0 whole (λ x y q k. search rules)
+returns c = mapped_is c.map.ensures.items (search rules) 0 (output_from c.args.signed) (λ x y q k. search rules)

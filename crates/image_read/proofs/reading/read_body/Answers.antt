@@ -1,5 +1,5 @@
 -- `read_body` meets its contract: refused by an unused bit, by `out`, by its mirroring, accepted, refused by its state.
-use mathlib.Core.Path.{◌≡◌, sym}
+use mathlib.Core.Path.{◌≡◌, refl, sym, ◌∙◌}
 use mathlib.Core.Bool.{true, false}
 use Rattle.std.specs.Prelude.{Result, Ok, Err, MatchResult}
 use Rattle.refusals.specs.declared.Refusal.{Refusal}
@@ -8,9 +8,10 @@ use Rattle.board_state.specs.declared.State.{State}
 use Rattle.board_state.specs.State.{in_range}
 use Rattle.call_refusals.specs.declared.known.KnownState.{KnownState}
 use Rattle.call_refusals.proofs.Laws.{known-range}
-use Rattle.image_read.specs.Reading.{ReadImage, refused_read, read_answer}
+use Rattle.board_state.specs.declared.Options.{Options}
+use Rattle.image_read.specs.Reading.{ReadImage, options_from, options_of, refused_read, read_answer}
 use mathlib.Core.List.{List}
-use Prim.Native.Nat.{ℕ, ◌+◌, ◌-◌, ◌^◌, ◌<◌}
+use Prim.Native.Nat.{ℕ, ◌+◌, ◌-◌, ◌%◌, ◌^◌, ◌<◌}
 use native.Mathlib.Omega.{arith}
 use lib.ListN.{length, take, drop}
 use Rattle.bits.specs.Words.{word_of}
@@ -20,26 +21,34 @@ use Rattle.image_write.specs.Sections.{chip_at, ram_at, out_at}
 use Rattle.image_read.specs.declared.head.Head.{Head}
 use Rattle.image_read.specs.Sections.{fields_at, head_parts}
 use Rattle.image_read.proofs.Accepted.{Opened, refused-unused, refused-out, refused-mirroring, refused-range, accepted-state}
+use Rattle.image_read.proofs.Out.{from-bits-ok}
 use Rattle.image_read.proofs.reading.read_body.Goals as goal
 
-pub returns-then-options-ne0 : goal.returns-then-options-ne0
-returns-then-options-ne0 c = sym (refused-unused _ _ c.if-options-ne0.true)
+pub returns-then-byte-ne0 : goal.returns-then-byte-ne0
+returns-then-byte-ne0 c = sym (refused-unused _ _ c.if-byte-ne0.true)
 
 -- what is known of the bytes once the board was read
-opened : (img : List ℕ) (h : Head) (bits : ℕ) → length img ≡ image_bytes → Bytes img
+opened : (img : List ℕ) (byte : ℕ) (h : Head) (word bits : ℕ) (chosen : Options) → length img ≡ image_bytes → Bytes img → byte % 32 ≡ 0
     → fields_at (joined chip_widths) img chip_at (ram_at - chip_at) ≡ joined (head_parts h)
-    → bits ≡ 0 + word_of (take 4 (drop out_at img)) → bits < 2 ^ 32 → Opened img h bits
-opened img h bits l f e w s = record { long = l; bytes = f; head = e; out = omega (arith, w); small = s }
+    → word ≡ 0 + word_of (take 4 (drop out_at img)) → word < 2 ^ 32 → bits ≡ word → chosen ≡ options_from (options_of byte)
+    → Opened img byte h bits chosen
+opened img byte h word bits chosen l f u e w s b o =
+    record { long = l; bytes = f; unused = u; head = e; out = omega (arith, w, b); small = omega (arith, s, b); options = o }
 
-pub returns-then-bits : goal.returns-then-bits
-returns-then-bits c =
-    let o = opened _ c.read_head-h.result _ c.told-img c.fits-img c.read_head-h.ensures c.load-bits.ensures.value c.load-bits.ensures.upper_bound in
-    sym (refused-out _ _ c.ranges.options.fits c.if-options-ne0.false _ _ o c.if-bits.true)
+pub returns-then-not-bits_ok : goal.returns-then-not-bits_ok
+returns-then-not-bits_ok c =
+    let o = opened _ _ c.read_head-h.result _ _ _ c.told-img c.fits-img c.if-byte-ne0.false c.read_head-h.ensures
+    c.load-bits.ensures.value c.load-bits.ensures.upper_bound (omega arith) c.options_numbered-options.ensures in
+    sym (refused-out _ _ _ _ _ o (sym c.bits_ok.ensures ∙ c.if-not-bits_ok.true))
 
 pub returns-then-h-gt4 : goal.returns-then-h-gt4
 returns-then-h-gt4 c =
-    let o = opened _ c.read_head-h.result _ c.told-img c.fits-img c.read_head-h.ensures c.load-bits.ensures.value c.load-bits.ensures.upper_bound in
-    sym (refused-mirroring _ _ c.ranges.options.fits c.if-options-ne0.false _ _ o c.if-h-gt4.true)
+    let o = opened _ _ c.read_head-h.result c.load-bits.result _ _ c.told-img c.fits-img c.if-byte-ne0.false c.read_head-h.ensures
+    c.load-bits.ensures.value c.load-bits.ensures.upper_bound refl c.options_numbered-options.ensures in
+    sym (refused-mirroring _ _ _ _ _ o c.if-h-gt4.true)
+
+pub read_fields-requires : goal.read_fields-requires
+read_fields-requires c = from-bits-ok _ _ _ (sym c.bits_ok.ensures ∙ c.if-not-bits_ok.false)
 
 -- by whether the state passes
 told : (r : Result KnownState Refusal) (s : State) (w : ReadImage)
@@ -50,8 +59,9 @@ told (Err q) s w e passes fails = rw e.0 (fails e.1)
 
 pub returns : goal.returns
 returns c =
-    let o = opened _ c.read_head-h.result _ c.told-img c.fits-img c.read_head-h.ensures c.load-bits.ensures.value c.load-bits.ensures.upper_bound in
+    let o = opened _ _ c.read_head-h.result _ _ _ c.told-img c.fits-img c.if-byte-ne0.false c.read_head-h.ensures
+    c.load-bits.ensures.value c.load-bits.ensures.upper_bound (omega arith) c.options_numbered-options.ensures in
     told c.new.result c.read_fields.result _ c.new.ensures
     (λ i. let ok = rw c.read_fields.ensures at i in
-    rw c.read_fields.ensures (sym (accepted-state _ _ c.ranges.options.fits c.if-options-ne0.false _ _ o c.if-h-gt4.false ok)))
-    (λ i. sym (refused-range _ _ c.ranges.options.fits c.if-options-ne0.false _ _ o (rw c.read_fields.ensures at i)))
+    rw c.read_fields.ensures (sym (accepted-state _ _ _ _ _ o c.if-h-gt4.false ok)))
+    (λ i. sym (refused-range _ _ _ _ _ o (rw c.read_fields.ensures at i)))

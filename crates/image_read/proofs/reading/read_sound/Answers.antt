@@ -6,12 +6,11 @@ use Rattle.bits.specs.Words.{word_of}
 use Rattle.image_write.specs.Sections.{port_at, levels_at}
 use Rattle.image_read.specs.Sections.{sound_at}
 use Rattle.image_read.proofs.Fields.{port-at}
-use Rattle.image_read.proofs.Out.{from-bits-ok}
 use native.Mathlib.Omega.{arith}
 use Rattle.image_read.proofs.reading.read_sound.Goals as goal
 
 pub float_from_bits-result : goal.float_from_bits-result
-float_from_bits-result c = from-bits-ok c.args.bits c.requires
+float_from_bits-result c = c.requires
 
 pub returns : goal.returns
 unfolding sound_at

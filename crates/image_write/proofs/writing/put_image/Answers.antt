@@ -1,12 +1,13 @@
 -- `put_image` meets its contract at either length.
-use Rattle.std.proofs.Common.{ℕ, true, ◌*◌, ◌≡◌, List, ◌++◌, length, drop, set, sym, ap, ◌∙◌, arith}
+use Rattle.std.proofs.Common.{ℕ, true, ◌≡◌, List, ◌++◌, length, drop, set, sym, ap, ◌∙◌, arith}
 use Rattle.std.proofs.lemmas.List.{drop_all}
 use lib.Seq.{length-take-le}
 use mathlib.Core.List.{append-nil}
 use Rattle.image_write.specs.Image.{image_bytes, image_of}
 use Rattle.board_state.specs.declared.State.{State}
-use Rattle.image_write.specs.Options.{option_set, room_for}
-use Rattle.image_write.proofs.Parts.{bit-is}
+use Rattle.bits.specs.Fields.{pack}
+use Rattle.board_state.specs.declared.Options.{Options}
+use Rattle.image_write.specs.Options.{option_set, option_widths, option_fields, room_for}
 use Rattle.image_write.proofs.writing.Laws.{room-first, room-short, length-put, image-short, put-long}
 use Rattle.image_write.proofs.writing.put_image.Goals as goal
 
@@ -31,10 +32,10 @@ as_long s img new k r e l = sym (length-put s img new (room-first (option_set s)
 -- the first bytes are the image, and behind them is the last one
 pub returns-then-img-eq-OPTIONS_IMAGE_BYTES : goal.returns-then-img-eq-OPTIONS_IMAGE_BYTES
 returns-then-img-eq-OPTIONS_IMAGE_BYTES c =
-    ap (λ (l : List ℕ). set (l ++ drop image_bytes c.args.img.now) image_bytes (c.from.result * 128)) c.put_state.ensures
-    ∙ put-long c.args.s c.args.img.now (c.from.result * 128)
+    ap (λ (l : List ℕ). set (l ++ drop image_bytes c.args.img.now) image_bytes c.options_byte.result) c.put_state.ensures
+    ∙ put-long c.args.s c.args.img.now c.options_byte.result
     (as_long c.args.s c.args.img.now _ _ c.requires.0 c.put_state.ensures c.if-img-eq-OPTIONS_IMAGE_BYTES.true)
-    (omega (arith, c.from.ensures, bit-is c.args.s.f800_protects))
+    (c.options_byte.ensures ∙ ap (λ (o : Options). pack option_widths (option_fields o)) c.options.ensures)
 
 pub returns-else-img-eq-OPTIONS_IMAGE_BYTES : goal.returns-else-img-eq-OPTIONS_IMAGE_BYTES
 returns-else-img-eq-OPTIONS_IMAGE_BYTES c =

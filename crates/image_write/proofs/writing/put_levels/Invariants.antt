@@ -7,4 +7,4 @@ use Rattle.image_write.proofs.writing.put_levels.Given as goal
 
 abbrev pub invariant-loop-x : goal.invariant-loop-x
 invariant-loop-x l =
-    Wrote l.initial.img l.img (byte_at levels_at) l.c (replicate l.x-index 12) (take l.x-index (map level_num l.outs))
+    Wrote l.initial.img l.img (byte_at levels_at) l.c (replicate l.x-index 12) (take l.x-index (map level_num l.audio.channel_out))

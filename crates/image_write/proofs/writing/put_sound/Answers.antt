@@ -9,6 +9,9 @@ use native.Mathlib.Omega.{arith}
 use borrow.Author.Rules.{rules}
 use Rattle.image_write.proofs.writing.put_sound.Goals as goal
 
+pub put_out-requires : goal.put_out-requires
+put_out-requires c = c.requires.mixed.number
+
 pub returns : goal.returns
 unfolding total
 returns c =

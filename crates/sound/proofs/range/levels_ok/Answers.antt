@@ -9,5 +9,5 @@ use Rattle.sound.proofs.range.levels_ok.Goals as goal
 
 pub returns : goal.returns
 returns c =
-    let e : c.fold.result ≡ fold (λ ok x. ok && level_ok x) true c.args.outs.now = search rules in
-    e ∙ every-fold level_ok nan c.args.outs.now ∙ ap (λ n. every n (output_test c.args.outs.now)) c.told-outs
+    let e : c.fold.result ≡ fold (λ ok x. ok && level_ok c.args.signed x) true c.args.outs.now = search rules in
+    e ∙ every-fold (level_ok c.args.signed) nan c.args.outs.now ∙ ap (λ n. every n (output_test c.args.signed c.args.outs.now)) c.told-outs

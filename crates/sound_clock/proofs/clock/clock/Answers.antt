@@ -23,11 +23,11 @@ returns-then-a-eq15 c =
     let r = c.update_channel.ensures.1 in (
       moved c.args.a.now _ _ _ c.update_channel.ensures.0 c.channel_count.ensures.0 c.next_channel-a.ensures.0
           ∙ sym (clock-due c.args.a.now c.if-a.false c.if-a-eq15.true),
-      other-range c.update_channel.new.a _ r.counter (omega (arith, c.next_channel-a.ensures.1)) r.address refl refl refl r,
+      other-range c.update_channel.new.a _ r.counter (omega (arith, c.next_channel-a.ensures.1)) r.address refl refl refl refl refl r,
     )
 
 pub returns-else-a-eq15 : goal.returns-else-a-eq15
 returns-else-a-eq15 c = (
   sym (clock-quiet c.args.a.now c.if-a.false c.if-a-eq15.false),
-  other-range c.args.a.now _ (omega (arith, c.requires.counter)) c.requires.channel c.requires.address refl refl refl c.requires,
+  other-range c.args.a.now _ (omega (arith, c.requires.counter)) c.requires.channel c.requires.address refl refl refl refl refl c.requires,
 )

@@ -40,9 +40,9 @@ loop-sample-preserved c =
     let h = room c.args.n _ c.args.a.now c.if-a.false c.from.ensures c.requires.in_range.counter c.requires.a_in_bounds in
     let full = length-take-le _ c.args.samples.now h in
     going-parts _ _ _ _ _ c.loop-sample.a _ c.loop-sample.sample-index c.loop-sample.invariant
-    (omega (arith, full, c.loop-sample-test.true)) (omega (arith, full)) _ _ _ _ _ _ _ _ _
-    c.from-k.ensures c.base_addr.ensures.0 c.next_phase-phase.ensures c.level_at.ensures c.from-level.ensures c.resum-sum.ensures
-    c.mean-a.ensures c.next_channel-a.ensures.0 c.output.ensures
+    (omega (arith, full, c.loop-sample-test.true)) (omega (arith, full)) _ _ _ _ _ _ _ _
+    c.from-k.ensures c.base_addr.ensures.0 c.next_phase-phase.ensures c.output_at-output.ensures c.resum-sum.ensures
+    c.mixed-a.ensures c.next_channel-a.ensures.0 c.output.ensures
 
 pub returns-clause-audio_value : goal.returns-clause-audio_value
 returns-clause-audio_value c =
@@ -55,7 +55,7 @@ returns-clause-audio_value c =
       clocked-all n _ a c.if-a.false c.from.ensures c.requires.in_range.counter _ done.0,
       (
         made-all n _ a c.if-a.false c.from.ensures c.requires.in_range.counter,
-        other-range c.loop-sample.a _ (omega arith) r.channel r.address refl refl refl r,
+        other-range c.loop-sample.a _ (omega arith) r.channel r.address refl refl refl refl refl r,
       ),
     )
 

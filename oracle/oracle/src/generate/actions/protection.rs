@@ -1,5 +1,5 @@
 // SPDX-License-Identifier: MIT OR Apache-2.0
-//! Calls around the options (L19 to L21, H9): F800 and stores at what it protects, resets between, images of both lengths and of others.
+//! Calls around the editions (L19 to L21, H9): F800 and stores at what it protects, resets between, images of both lengths and of others.
 
 use super::{Action, quiet_write, reset, sound_read};
 use crate::{
@@ -10,7 +10,7 @@ use crate::{
 };
 use tetanes::m019_namco163::Board;
 
-pub const OPTION_ACTIONS: &[Action] =
+pub const PROTECTION_ACTIONS: &[Action] =
     &[protected_stores, protected_stores, protected_stores, over_a_reset, byte_of_another, byte_of_another, blocks_over_parts, images];
 
 /// L20: a byte of those that leave a part open, or one of another high half.

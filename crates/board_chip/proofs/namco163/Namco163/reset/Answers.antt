@@ -41,5 +41,5 @@ returns c =
       filled c.args.self.nt_bank_enable c.fill.new.self true n (c.fill.ensures.after (λ y e. e)),
       filled c.args.self.chr_banks c.fill-2.new.self 0 m (c.fill-2.ensures.after (λ y e. e)),
       c.reset-self.ensures,
-      c.new-self.ensures,
+      c.new.ensures,
     )
