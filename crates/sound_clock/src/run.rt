@@ -23,6 +23,8 @@ pub fn run(a: &mut Audio, n: u32, samples: &mut [f32]) -> usize
     }
     let total = usize::from(a.update_counter) + (n as usize);
     let made = total / 15;
+    let signed = a.signed_levels; // asked once and not at each update
+    let plain = a.plain_sum;
     let c = channel_count(&a.ram);
     let mut sum = mix::sum(&a.channel_out, c);
     for sample in &mut samples[..made] {
@@ -33,10 +35,10 @@ pub fn run(a: &mut Audio, n: u32, samples: &mut [f32]) -> usize
             base: base_addr(k),
         };
         let phase = channel.next_phase(a.phase_ext[k]);
-        let output = channel.output_at(phase, a.signed_levels);
+        let output = channel.output_at(phase, signed);
         sum = mix::resum(sum, a.channel_out[k], output, ch, c);
         a.channel_out[k] = output;
-        a.out = mix::mixed(sum, c, a.plain_sum);
+        a.out = mix::mixed(sum, c, plain);
         a.phase_ext[k] = phase;
         a.current_channel = clock::next_channel(ch, c);
         *sample = mix::output(a.out);

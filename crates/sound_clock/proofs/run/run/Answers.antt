@@ -39,17 +39,20 @@ pub loop-sample-preserved : goal.loop-sample-preserved
 loop-sample-preserved c =
     let h = room c.args.n _ c.args.a.now c.if-a.false c.from.ensures c.requires.in_range.counter c.requires.a_in_bounds in
     let full = length-take-le _ c.args.samples.now h in
-    going-parts _ _ _ _ _ c.loop-sample.a _ c.loop-sample.sample-index c.loop-sample.invariant
-    (omega (arith, full, c.loop-sample-test.true)) (omega (arith, full)) _ _ _ _ _ _ _ _
-    c.from-k.ensures c.base_addr.ensures.0 c.next_phase-phase.ensures c.output_at-output.ensures c.resum-sum.ensures
-    c.mixed-a.ensures c.next_channel-a.ensures.0 c.output.ensures
+    let same = c.loop-sample.invariant.1 in (
+      going-parts _ _ _ _ _ c.loop-sample.a _ c.loop-sample.sample-index c.loop-sample.invariant.0
+          (omega (arith, full, c.loop-sample-test.true)) (omega (arith, full)) _ _ _ _ _ _ _ _
+          c.from-k.ensures c.base_addr.ensures.0 c.next_phase-phase.ensures (rw same.0 c.output_at-output.ensures) c.resum-sum.ensures
+          (rw same.1 c.mixed-a.ensures) c.next_channel-a.ensures.0 c.output.ensures,
+      same,
+    )
 
 pub returns-clause-audio_value : goal.returns-clause-audio_value
 returns-clause-audio_value c =
     let n = c.args.n in let a = c.args.a.now in
     let h = room n _ a c.if-a.false c.from.ensures c.requires.in_range.counter c.requires.a_in_bounds in
     let full = length-take-le _ c.args.samples.now h in
-    let g = c.loop-sample.invariant in
+    let g = c.loop-sample.invariant.0 in
     let done = going_end _ _ _ _ _ _ _ _ g (omega (arith, full, c.loop-sample-test.false)) in
     let r = g.range in (
       clocked-all n _ a c.if-a.false c.from.ensures c.requires.in_range.counter _ done.0,
@@ -64,5 +67,5 @@ returns-clause-samples_after c =
     let n = c.args.n in let a = c.args.a.now in
     let h = room n _ a c.if-a.false c.from.ensures c.requires.in_range.counter c.requires.a_in_bounds in
     let full = length-take-le _ c.args.samples.now h in
-    let done = going_end _ _ _ _ _ _ _ _ c.loop-sample.invariant (omega (arith, full, c.loop-sample-test.false)) in
+    let done = going_end _ _ _ _ _ _ _ _ c.loop-sample.invariant.0 (omega (arith, full, c.loop-sample-test.false)) in
     filled-all n _ a c.if-a.false c.from.ensures c.requires.in_range.counter c.args.samples.now _ done.1
