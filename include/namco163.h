@@ -2,8 +2,8 @@
 /* The cartridge boards Namco 163, 175 and 340 of the NES (iNES mappers 19 and 210), for a C or C++ host.
  *
  * A cartridge is two blocks of bytes that the host owns and lends to each call:
- *   image  307 bytes: registers, sound chip, page tables, sizes; or 308, with options (see "Options, and the two lengths of an image"
- *          below). The library alone writes it; it may be copied and kept like any bytes.
+ *   image  307 bytes: registers, sound chip, page tables, sizes; or 308, with options or with more than 130,048 bytes of PRG-RAM (see
+ *          "Options, and the two lengths of an image" below). The library alone writes it; it may be copied and kept like any bytes.
  *   arena  the cartridge's memory: ROM, RAM and nametables, one after the other.
  * Image and arena together are the whole state, so copies of both are a save state. The library keeps nothing between calls and allocates
  * nothing.
@@ -42,7 +42,7 @@ extern "C" {
 
 /* The version of this header and of the archive that belongs to it. */
 #define NAMCO163_VERSION_MAJOR 0
-#define NAMCO163_VERSION_MINOR 9
+#define NAMCO163_VERSION_MINOR 10
 #define NAMCO163_VERSION_PATCH 0
 #define NAMCO163_TEXT_OF(x) #x
 #define NAMCO163_TEXT(x) NAMCO163_TEXT_OF(x)
@@ -50,7 +50,7 @@ extern "C" {
     NAMCO163_TEXT(NAMCO163_VERSION_MAJOR) "." NAMCO163_TEXT(NAMCO163_VERSION_MINOR) "." NAMCO163_TEXT(NAMCO163_VERSION_PATCH)
 
 #define NAMCO163_IMAGE_SIZE 307u  /* bytes of an image without options */
-#define NAMCO163_OPTIONS_IMAGE_SIZE 308u /* bytes of an image with options; every call takes either */
+#define NAMCO163_OPTIONS_IMAGE_SIZE 308u /* bytes of an image with options, or with 128 pages of PRG-RAM; every call takes either */
 #define NAMCO163_PAGE_SIZE 1024u  /* bytes of a page: regions are whole pages, and page table entries show one each */
 #define NAMCO163_SAMPLE_SIZE 4u   /* bytes of a sample */
 #define NAMCO163_CLOCK_LIMIT 29781u /* clocks of one run, at most */
@@ -59,7 +59,7 @@ extern "C" {
 
 /* The largest sizes that a load accepts, in bytes. */
 #define NAMCO163_PRG_ROM_LIMIT 524288u
-#define NAMCO163_PRG_RAM_LIMIT 65536u
+#define NAMCO163_PRG_RAM_LIMIT 131072u /* more than 130,048 bytes need an image of 308 */
 #define NAMCO163_BATTERY_LIMIT 1024u
 #define NAMCO163_CHR_LIMIT 262144u
 #define NAMCO163_CIRAM_LIMIT 4096u
@@ -80,7 +80,7 @@ extern "C" {
 enum namco163_refusals {
     NAMCO163_ACCEPTED = 0,
     NAMCO163_IMAGE_LENGTH = 1,   /* every call with an image: its length is neither 307 nor 308; a load: it is 307, and an option is asked
-                                  * for */
+                                  * for, or 130,049 to 131,072 bytes of PRG-RAM, which are 128 pages */
     NAMCO163_OUT_OF_RANGE = 2,   /* read, write, preview, run, reset, stored: the image holds a field that no state has, or sets an unused
                                   * bit of the options; every call with a directory but find: it holds a start twice or a block that cannot
                                   * be registered, or has not 256 places (of namco163_load_blocks this last alone) */
@@ -139,11 +139,14 @@ uint64_t namco163_load(uint8_t *image, size_t image_len, uint8_t *arena, size_t 
  * namco163_sample says between which ends a sample lies.
  *
  * Options are kept in the image's 308th byte, so a cartridge with one or more needs an image of NAMCO163_OPTIONS_IMAGE_SIZE; into 307 bytes
- * its load is refused by 1. Without any either length will do. Every call takes both lengths, and writes the image back at the length that
- * it was lent; 307 bytes are read as an image without options.
+ * its load is refused by 1. A cartridge with 128 pages of PRG-RAM, 130,049 to 131,072 bytes, needs it too, since 307 bytes can count 127:
+ * bit 4 (10) of the 308th byte is the high bit of the count. It is no option, and a load sets it by the size alone. Any other cartridge may
+ * have either length. Every call takes both, and writes the image back at the length that it was lent; 307 bytes are read as an image
+ * without options and without that bit.
  *
  * So an image of 307 bytes may be lengthened by one byte of 0, and an image of 308 whose last byte is 0 may be cut to 307: the state is the
- * same. Where the last byte is not 0 an image must not be cut, nor that byte be changed: what comes may be taken, as another cartridge. */
+ * same. Where the last byte is not 0 an image must not be cut, nor that byte be changed: what comes may be taken, as another cartridge. One
+ * of 128 pages, cut, has no PRG-RAM, and is refused by 2 where a page table entry lies beyond the arena that is left. */
 
 /* A load (namco163_load) that chooses the options: of each number 0 is no, any other yes. namco163_load is this with three times 0.
  * Answers the refusal number alone: 0, or 1, 4, 5, 6, 7. */
@@ -268,7 +271,7 @@ static inline uint32_t namco163_block_number(uint64_t answer) { return (uint32_t
 /* What a refusal number means, in words. */
 static inline const char *namco163_refusal_text(unsigned refusal) {
     static const char *const texts[] = {
-        "accepted", "the image is neither 307 nor 308 bytes long, or 307 where an option wants the 308th",
+        "accepted", "the image is neither 307 nor 308 bytes long, or 307 where an option or the PRG-RAM wants the 308th",
         "the image holds a field out of range or an unused option bit, or the directory is unfit",
         "the reset kind is neither 0 nor 1",
         "the mapper is neither 19 nor 210", "a size is above its limit", "mapper 19 needs a battery reserve of 1 byte or more",
@@ -331,7 +334,7 @@ static inline struct namco163_arena namco163_arena_of(uint64_t prg_rom, uint64_t
     return at;
 }
 
-/* The arena's length alone, which does not depend on whether CHR is ROM or RAM. 0 if a size is above its limit; at most 858,112. */
+/* The arena's length alone, which does not depend on whether CHR is ROM or RAM. 0 if a size is above its limit; at most 923,648. */
 static inline size_t namco163_arena_length(uint64_t prg_rom, uint64_t prg_ram, uint64_t battery, uint64_t chr, uint64_t ciram) {
     return namco163_arena_of(prg_rom, prg_ram, battery, chr, 0, ciram).length;
 }

@@ -6,8 +6,8 @@
 
 #include "namco163.h"
 
-/* T0: layout P, 52 pages; BARE is without PRG-RAM, 44 pages. */
-enum { ARENA = 53248, BARE = 45056, SAMPLES = 4 * NAMCO163_MOST_SAMPLES + 3 };
+/* T0: layout P, 52 pages; BARE is without PRG-RAM, 44 pages; LARGEST has each size at its limit, 902 pages. */
+enum { ARENA = 53248, BARE = 45056, LARGEST = 923648, SAMPLES = 4 * NAMCO163_MOST_SAMPLES + 3 };
 
 static uint8_t image[NAMCO163_OPTIONS_IMAGE_SIZE + 1], arena[ARENA + 1], samples[SAMPLES];
 static uint8_t image_before[sizeof image], arena_before[sizeof arena], samples_before[sizeof samples];
@@ -76,11 +76,14 @@ static void test_sizes(void) {
     struct namco163_arena ram = namco163_arena_of(32768, 8192, 128, 8192, 1, 2048);
     EQUAL(namco163_arena_length(32768, 8192, 128, 8192, 2048), ARENA);
     EQUAL(namco163_arena_length(524288, 65536, 1024, 262144, 4096), 858112);
+    EQUAL(namco163_arena_length(524288, 131072, 1024, 262144, 4096), LARGEST);
     EQUAL(namco163_arena_length(32768, 0, 128, 8192, 2048), BARE);
     EQUAL(namco163_arena_length(0, 0, 0, 0, 0), 3072);
     EQUAL(namco163_arena_length(1, 1025, 1, 0, 1), 6144);
     EQUAL(namco163_arena_length(524289, 0, 0, 0, 0), 0);
-    EQUAL(namco163_arena_length(0, 65537, 0, 0, 0), 0);
+    EQUAL(namco163_arena_length(0, 65537, 0, 0, 0), 69632);
+    EQUAL(namco163_arena_length(0, 131072, 0, 0, 0), 134144);
+    EQUAL(namco163_arena_length(0, 131073, 0, 0, 0), 0);
     EQUAL(namco163_arena_length(0, 0, 1025, 0, 0), 0);
     EQUAL(namco163_arena_length(0, 0, 0, 262145, 0), 0);
     EQUAL(namco163_arena_length(0, 0, 0, 0, 4097), 0);
@@ -94,6 +97,7 @@ static void test_sizes(void) {
     EQUAL(namco163_most_samples(16), 2);
     EQUAL(NAMCO163_CLOCK_LIMIT, 29781);
     EQUAL(NAMCO163_MOST_SAMPLES, 1986);
+    EQUAL(NAMCO163_PRG_RAM_LIMIT, 131072);
     EQUAL(namco163_most_samples(NAMCO163_CLOCK_LIMIT), NAMCO163_MOST_SAMPLES);
     CHECK(!strcmp(namco163_refusal_text(0), "accepted") && !strcmp(namco163_refusal_text(12), "no battery is in use"));
     CHECK(!strcmp(namco163_refusal_text(NAMCO163_DIRECTORY_FULL), "all 256 places of the directory are held"));
@@ -851,7 +855,8 @@ static void test_options(void) {
     EQUAL(load_edition(308, 19, 0, 1, 8192, 0), 0);
     EQUAL(image[307], 0x00);
     EQUAL(namco163_options(image, 308), 0);
-    CHECK(!strcmp(namco163_refusal_text(1), "the image is neither 307 nor 308 bytes long, or 307 where an option wants the 308th"));
+    CHECK(!strcmp(namco163_refusal_text(1),
+                  "the image is neither 307 nor 308 bytes long, or 307 where an option or the PRG-RAM wants the 308th"));
     CHECK(!strcmp(namco163_refusal_text(2), "the image holds a field out of range or an unused option bit, or the directory is unfit"));
 }
 
@@ -1326,6 +1331,228 @@ static void test_level_ends(void) {
     }
 }
 
+/* ---- PRG-RAM of more than 64 pages */
+
+static uint8_t large[LARGEST + 1], large_before[sizeof large];
+static size_t large_lent; /* how much of it calls get: as much as the last load */
+
+static void keep_large(void) {
+    keep();
+    memcpy(large_before, large, sizeof large);
+}
+static int kept_large(void) { return kept() && !memcmp(large_before, large, sizeof large); }
+
+/* The calls that load: namco163_load, which takes no options, namco163_load_options, namco163_load_blocks. */
+enum { PLAIN, WITH_OPTIONS, WITH_BLOCKS, LOADS };
+
+/* Layout P with so much PRG-RAM, into so many bytes, with the options of a byte; sizes beyond a limit are lent no arena. */
+static uint64_t load_ram(unsigned by, size_t len, uint64_t mapper, uint8_t submapper, uint64_t ram, unsigned options) {
+    uint64_t f800 = options & NAMCO163_F800_PROTECTS, levels = options & NAMCO163_SIGNED_LEVELS, sum = options & NAMCO163_PLAIN_SUM;
+    large_lent = namco163_arena_length(32768, ram, 128, 8192, 2048);
+    image_lent = len;
+    if (by == PLAIN) return namco163_load(image, len, large, large_lent, mapper, submapper, 0, 1, 32768, ram, 128, 8192, 0, 2048);
+    if (by == WITH_OPTIONS)
+        return namco163_load_options(image, len, large, large_lent, mapper, submapper, 0, 1, 32768, ram, 128, 8192, 0, 2048, f800, levels,
+                                     sum);
+    return namco163_load_blocks(image, len, large, large_lent, directory, NAMCO163_PLACES, mapper, submapper, 0, 1, 32768, ram, 128, 8192,
+                                0, 2048, f800, levels, sum);
+}
+static uint64_t read_large(unsigned addr) { return namco163_read(image, image_lent, large, large_lent, (uint16_t)addr); }
+static uint64_t write_large(unsigned addr, unsigned val) {
+    return namco163_write(image, image_lent, large, large_lent, (uint16_t)addr, (uint8_t)val);
+}
+
+/* R1, R2, H1, H12: pages, places in the arena, and the count in the image, of which bit 7 is bit 4 of byte 307. */
+static void test_ram_sizes(void) {
+    static const struct {
+        uint64_t ram, arena, pages;
+        uint8_t counts[4];
+        unsigned last;
+    } sizes[] = {
+        {8192, 53248, 8, {0x08, 0x04, 0x41, 0x05}, 0x00},      {65536, 110592, 64, {0x08, 0x20, 0x41, 0x05}, 0x00},
+        {65537, 111616, 65, {0x08, 0x20, 0xC1, 0x05}, 0x00},   {130048, 175104, 127, {0x08, 0x3F, 0xC1, 0x05}, 0x00},
+        {130049, 176128, 128, {0x08, 0x00, 0x41, 0x05}, 0x10}, {131072, 176128, 128, {0x08, 0x00, 0x41, 0x05}, 0x10},
+    };
+    size_t k;
+    for (k = 0; k < sizeof sizes / sizeof sizes[0]; k++) {
+        struct namco163_arena at = namco163_arena_of(32768, sizes[k].ram, 128, 8192, 0, 2048);
+        EQUAL(at.length, sizes[k].arena);
+        CHECK(at.prg_ram == 41984 && at.battery == 41984 + 1024 * sizes[k].pages);
+        EQUAL(load_ram(PLAIN, 308, 19, 0, sizes[k].ram, 0), 0);
+        EQUAL(large_lent, sizes[k].arena);
+        CHECK(!memcmp(image + 303, sizes[k].counts, 4));
+        EQUAL(image[307], sizes[k].last);
+        EQUAL(namco163_options(image, 308), 0);
+        keep_large();
+        EQUAL(load_ram(PLAIN, 307, 19, 0, sizes[k].ram, 0), sizes[k].last ? NAMCO163_IMAGE_LENGTH : 0);
+        CHECK(kept_large());
+    }
+}
+
+/* N1, N4, N5, H8, H12: loads into images of each length, by each of the three calls. */
+static void test_ram_loads(void) {
+    static const struct {
+        size_t len;
+        uint64_t mapper, ram;
+        unsigned options;
+        uint64_t answer;
+        unsigned last; /* of an accepted load, what byte 307 becomes */
+    } loads[] = {
+        {307, 19, 65536, 0, 0, 0xA5}, {307, 19, 65537, 0, 0, 0xA5}, {307, 19, 130048, 0, 0, 0xA5}, {307, 20, 130048, 0, 4, 0},
+        {307, 19, 130049, 0, 1, 0}, {307, 20, 130049, 0, 1, 0}, {307, 19, 131072, 0, 1, 0}, {307, 20, 131072, 0, 1, 0},
+        {307, 19, 131073, 0, 5, 0}, {307, 20, 131073, 0, 4, 0}, {307, 19, BIT_32 + 131072, 0, 5, 0}, {307, 19, BIT_63, 0, 5, 0},
+        {307, 19, 65536, 0x80, 1, 0}, {307, 19, 130048, 0x40, 1, 0}, {307, 20, 131073, 0x20, 1, 0}, {307, 19, 131072, 0xE0, 1, 0},
+        {308, 19, 65536, 0, 0, 0x00}, {308, 19, 65537, 0, 0, 0x00}, {308, 19, 130048, 0, 0, 0x00}, {308, 19, 130049, 0, 0, 0x10},
+        {308, 210, 131072, 0, 0, 0x10}, {308, 19, 131073, 0, 5, 0}, {308, 20, 131073, 0, 4, 0}, {308, 20, 131072, 0, 4, 0},
+        {308, 19, BIT_32 + 131072, 0, 5, 0}, {308, 19, 8192, 0xE0, 0, 0xE0}, {308, 19, 131072, 0xE0, 0, 0xF0},
+        {308, 19, 131072, 0x80, 0, 0x90}, {308, 19, 130049, 0x40, 0, 0x50}, {308, 210, 130049, 0x20, 0, 0x30},
+        {306, 19, 131072, 0, 1, 0}, {309, 19, 131072, 0, 1, 0}, {309, 20, 131073, 0, 1, 0}, {0, 19, 130048, 0, 1, 0},
+    };
+    size_t k;
+    for (k = 0; k < LOADS * sizeof loads / sizeof loads[0]; k++) {
+        size_t at = k / LOADS, zeros = 0;
+        unsigned by = k % LOADS;
+        if (by == PLAIN && loads[at].options) continue;
+        memset(image, 0xA5, sizeof image);
+        memset(large, 0xA5, sizeof large);
+        memset(directory, 0, sizeof directory);
+        keep_large();
+        EQUAL(load_ram(by, loads[at].len, loads[at].mapper, 0, loads[at].ram, loads[at].options), loads[at].answer);
+        if (loads[at].answer) {
+            CHECK(kept_large());
+        } else {
+            while (large[zeros] == 0) zeros++;
+            EQUAL(zeros, large_lent);
+            CHECK(image[307] == loads[at].last && image[308] == 0xA5);
+        }
+    }
+}
+
+/* R9, N2, H10, H12: counts in an image of P, whose entries lie below page 52; and the image of 128 pages, cut. */
+static void test_ram_counts(void) {
+    static const struct {
+        unsigned high, low, refused;
+    } counts[] = {{0, 8, 0}, {0, 64, 0}, {0, 65, 0}, {0, 127, 0}, {1, 0, 0}, {1, 1, 2}, {1, 8, 2}, {1, 64, 2}, {1, 127, 2}};
+    size_t k;
+    for (k = 0; k < 2 * sizeof counts / sizeof counts[0]; k++) {
+        unsigned high = counts[k / 2].high, low = counts[k / 2].low, options = k % 2 ? 0xE0 : 0x00;
+        EQUAL(load_ram(WITH_OPTIONS, 308, 19, 0, 8192, options), 0);
+        lend_bits(2434, 7, low);
+        image[307] = (uint8_t)(options | high << 4);
+        large_lent = ARENA + 1024 * (128 * high + low - 8);
+        if (counts[k / 2].refused) {
+            check_image(308, NAMCO163_OUT_OF_RANGE);
+            EQUAL(read_large(0x5000), NAMCO163_OUT_OF_RANGE);
+            continue;
+        }
+        keep_large();
+        EQUAL(read_large(0x5000), 0);
+        EQUAL(write_large(0x5000, 0), 0);
+        EQUAL(run(0), 0);
+        EQUAL(namco163_read(image, 308, large, large_lent - 1, 0), NAMCO163_ARENA_LENGTH);
+        EQUAL(namco163_read(image, 308, large, large_lent + 1, 0), NAMCO163_ARENA_LENGTH);
+        if (!image[307]) EQUAL(namco163_read(image, 307, large, large_lent, 0x5000), 0);
+        CHECK(kept_large());
+    }
+    EQUAL(load(19, 1, 32768, 128), 0);
+    image[307] = 0x10;
+    check_image(308, NAMCO163_OUT_OF_RANGE);
+    EQUAL(load_ram(PLAIN, 308, 19, 0, 131072, 0), 0);
+    check_image(307, NAMCO163_OUT_OF_RANGE);
+    EQUAL(load_ram(WITH_OPTIONS, 308, 19, 0, 131072, 0xE0), 0);
+    check_image(307, NAMCO163_OUT_OF_RANGE);
+}
+
+/* R4, R9: the largest layout: what its windows show, and entries at its last page and behind it. */
+static void test_ram_largest(void) {
+    static const unsigned pages[] = {837, 838, 901, 902, 1023};
+    unsigned k;
+    image_lent = 308;
+    large_lent = LARGEST;
+    EQUAL(namco163_load(image, 307, large, LARGEST, 19, 0, 0, 1, 524288, 131072, 1024, 262144, 0, 4096), NAMCO163_IMAGE_LENGTH);
+    EQUAL(namco163_load(image, 308, large, LARGEST - 1, 19, 0, 0, 1, 524288, 131072, 1024, 262144, 0, 4096), NAMCO163_ARENA_LENGTH);
+    EQUAL(namco163_load(image, 308, large, LARGEST, 19, 0, 0, 1, 524288, 131072, 1024, 262144, 0, 4096), 0);
+    EQUAL(image[307], 0x10);
+    for (k = 0; k < 8; k++) {
+        EQUAL(namco163_entry(image, 24 + k).offset, (769 + k) * 1024);
+        EQUAL(namco163_entry(image, 56 + k).offset, (505 + k) * 1024);
+        CHECK(namco163_entry(image, 24 + k).writable && !namco163_entry(image, 56 + k).writable);
+    }
+    for (k = 0; k < sizeof pages / sizeof pages[0]; k++) {
+        lend_entry(24, pages[k], 1);
+        if (pages[k] < 902) {
+            EQUAL(write_large(0x63FF, 0x5A), 0);
+            EQUAL(large[pages[k] * 1024 + 1023], 0x5A);
+            EQUAL(read_large(0x63FF), 0x5A00);
+        } else {
+            check_image(308, NAMCO163_OUT_OF_RANGE);
+        }
+    }
+}
+
+/* L13: with more pages 6000..7FFF shows the first eight, on every board and behind writes that map. */
+static void test_ram_windows(void) {
+    static const uint64_t sizes[] = {65536, 65537, 130048, 131072};
+    static const struct {
+        uint64_t mapper;
+        uint8_t submapper;
+        unsigned pages, open;
+    } boards[] = {{19, 0, 8, 0xFF}, {210, 0, 0, 0}, {210, 1, 8, 0}, {210, 2, 0, 0}};
+    size_t k, s;
+    for (s = 0; s < sizeof sizes / sizeof sizes[0]; s++) {
+        for (k = 0; k < sizeof boards / sizeof boards[0]; k++) {
+            EQUAL(load_ram(PLAIN, 308, boards[k].mapper, boards[k].submapper, sizes[s], 0), 0);
+            CHECK(work_ram(boards[k].pages) && open_entries() == boards[k].open);
+            EQUAL(write_large(0xF000, 0x02), (uint64_t)0xFF << 48);
+            CHECK(work_ram(boards[k].pages) && open_entries() == boards[k].open);
+        }
+        EQUAL(load_ram(PLAIN, 308, 210, 1, sizes[s], 0), 0);
+        EQUAL(write_large(0xC000, 0x01), 0xFF000000);
+        CHECK(work_ram(8) && open_entries() == 0xFF);
+        EQUAL(write_large(0x7FFF, 0x5A), 0);
+        EQUAL(large[41984 + 8191], 0x5A);
+        EQUAL(load_ram(WITH_OPTIONS, 308, 19, 0, sizes[s], 0x80), 0);
+        EQUAL(write_large(0xF800, 0x4E), 0x3000000);
+        CHECK(work_ram(8) && open_entries() == 0x03);
+    }
+}
+
+/* H10, H12: calls on 128 pages write 308 bytes back, and the count stays. */
+static void test_ram_calls(void) {
+    unsigned options;
+    for (options = 0; options < 0x100; options += 0x20) {
+        memset(image, 0xA5, sizeof image);
+        EQUAL(load_ram(WITH_OPTIONS, 308, 19, 0, 131072, options), 0);
+        EQUAL(namco163_preview(image, 308, large, large_lent, 0x8000, 0xE1), 0x100);
+        EQUAL(write_large(0x8000, 0xE1), 0x100);
+        EQUAL(run(15), 0x100);
+        EQUAL(reset(NAMCO163_SOFT), 0);
+        EQUAL(write_large(0x5000, 0x12), 0);
+        EQUAL(read_large(0x5000), 0x1200);
+        EQUAL(reset(NAMCO163_HARD), 0);
+        CHECK(image[307] == (options | 0x10) && image[308] == 0xA5 && namco163_options(image, 308) == options);
+        EQUAL(namco163_read(image, 308, large, large_lent - 1024, 0x6000), NAMCO163_ARENA_LENGTH);
+    }
+}
+
+/* K5, K10: blocks over the last page of PRG-RAM, where a lent entry shows it, and over the first. */
+static void test_ram_blocks(void) {
+    static const uint16_t starts[2] = {0x6000, 0x6400};
+    EQUAL(load_ram(WITH_BLOCKS, 308, 19, 0, 131072, 0), 0);
+    lend_entry(24, 168, 1);
+    add_each(starts, 2);
+    EQUAL(namco163_stored(image, 308, directory, NAMCO163_PLACES, 41 * 1024), 0);
+    EQUAL(held(starts, 2), 3);
+    EQUAL(namco163_stored(image, 308, directory, NAMCO163_PLACES, large_lent), 0);
+    EQUAL(held(starts, 2), 3);
+    EQUAL(namco163_stored(image, 308, directory, NAMCO163_PLACES, 169 * 1024 - 1), 0);
+    EQUAL(held(starts, 2), 2);
+    EQUAL(add(0x6000, 16, 1), 0);
+    EQUAL(namco163_write_blocks(image, 308, large, large_lent, directory, NAMCO163_PLACES, 0x6000, 0x5A), 0);
+    EQUAL(large[168 * 1024], 0x5A);
+    EQUAL(held(starts, 2), 2);
+}
+
 /* N20: refusals of a load, in their order: 1 4 5 6 7. */
 static void test_refused_loads(void) {
     keep();
@@ -1396,7 +1623,8 @@ static void (*const tests[])(void) = {
     test_register, test_full_directory, test_dropped, test_short_prg_ram, test_dropped_boards, test_dropped_lent, test_stored,
     test_load_blocks, test_unfit_directories, test_refused_blocks, test_options, test_option_loads, test_fresh_editions, test_f800,
     test_f800_resets, test_f800_detection, test_f800_unknown, test_f800_fixed, test_f800_short, test_f800_blocks, test_image_lengths,
-    test_option_sets, test_choices, test_choices_reset, test_sample_ends, test_level_ends,
+    test_option_sets, test_choices, test_choices_reset, test_sample_ends, test_level_ends, test_ram_sizes, test_ram_loads, test_ram_counts,
+    test_ram_largest, test_ram_windows, test_ram_calls, test_ram_blocks,
 };
 
 int main(void) {

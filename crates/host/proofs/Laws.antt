@@ -1,6 +1,6 @@
 -- Refused by the image, or on to the call on its state.
 use Prim.Native.Nat.{ℕ, ◌^◌, ◌<◌}
-use mathlib.Core.Path.{◌≡◌, refl, sym, ap, subst, ◌∙◌}
+use mathlib.Core.Path.{◌≡◌, refl, sym, ap, ap₂, subst, ◌∙◌}
 use mathlib.Core.Bool.{Bool, true, false, cond}
 use mathlib.Core.List.{List, ◌∷◌}
 use native.Mathlib.Omega.{arith}
@@ -8,17 +8,19 @@ use borrow.Author.Tests.{not-false}
 use lib.Dec.{eqb}
 use lib.ListN.{length}
 use Rattle.memory.specs.declared.layout.MemoryLayout.{MemoryLayout}
+use Rattle.memory.specs.declared.layout.Layout.{Layout}
+use Rattle.memory.specs.Layout.{pages_for, layout_of}
 use Rattle.memory.specs.Range.{Bytes}
 use Rattle.board_state.specs.declared.Options.{Options}
 use Rattle.board_state.specs.declared.State.{State}
 use Rattle.board_state.specs.None.{no_state}
-use Rattle.board_state.specs.State.{any_option, Known}
+use Rattle.board_state.specs.State.{options_in, Known}
 use Rattle.board_state.proofs.Range.{known-passes}
 use Rattle.call_refusals.specs.Refusals.{Check, first_of, unless_refused, state_check, load_checks}
 use Rattle.call_refusals.proofs.Laws.{Numbered, NoneHolds, accepted-none, first_done, number_is}
 use Rattle.call_load.specs.Cartridge.{Loaded}
 use Rattle.call_load.specs.Cartridge.{fresh_state, load_answer}
-use Rattle.image_write.specs.Options.{image_at, option_set, room_for}
+use Rattle.image_write.specs.Options.{image_at, needs_byte, option_set, room_for}
 use Rattle.image_write.specs.Writing.{room_check}
 use Rattle.image_read.specs.Reading.{ReadImage, read_checks, refused_read, read_image, state_in}
 use Rattle.image_read.proofs.RoundTrip.{accepted-in-range, in-range-accepted, read_known, roomy-in, written_read}
@@ -26,11 +28,11 @@ use Rattle.image_read.proofs.Accepted.{accepted}
 use Rattle.thm_machine.specs.Calls.{Held}
 use Rattle.thm_machine.specs.Start.{Loaded as Start}
 use Rattle.thm_machine.proofs.Start.{load-starts}
-use Rattle.thm_range.proofs.Calls.{load_fits}
+use Rattle.thm_range.proofs.Calls.{fresh-layout, load_fits}
 use Rattle.host_state.specs.HostState.{Gives, unaltered}
 use Rattle.host_state.proofs.Laws.{called}
 use Rattle.bits.specs.Fields.{bit}
-use Rattle.host.specs.Host.{yes, on_image, host_load}
+use Rattle.host.specs.Host.{yes, on_image, load_needs_byte, host_load}
 
 -- ---- the state of an accepted image
 
@@ -49,10 +51,6 @@ module _ (img : List ℕ) (own : List Check) (numbered : Numbered own) (e : firs
   in_image =
       let h = none-held in
       known_in img (in-range-accepted img (not-false _ h.0) (not-false _ h.1.0))
-
--- whether there is room is asked of the options that a load was given
-pub asked : (o : Options) (set r : Bool) (n : ℕ) → set ≡ any_option o → r ≡ room_for set n → r ≡ room_for (any_option o) n
-asked o set r n e f = f ∙ ap (λ (b : Bool). room_for b n) e
 
 -- ---- refused by it, or on with it
 
@@ -175,7 +173,16 @@ module _ (mapper sub flags : ℕ) (known : Bool) (sizes : MemoryLayout) (options
   pub load_fresh : r.refusal ≡ 0 → r.state ≡ fresh_state mapper sub flags known sizes options
   load_fresh z = ap (λ (x : Loaded). x.state) e ∙ ap (λ (h : Held). h.state) (load-starts (begun z))
 
-  -- bytes that hold its options hold its image
-  pub room-fresh : r.refusal ≡ 0 → (n : ℕ) → room_for (any_option options) n ≡ true → room_for (option_set r.state) n ≡ true
+  -- bytes that hold an image of its options and pages hold its image
+  fresh-options : options_in (fresh_state mapper sub flags known sizes options) ≡ options
   unfolding fresh_state
-  room-fresh z n h = subst (λ (s : State). room_for (option_set s) n ≡ true) (sym (load_fresh z)) h
+  fresh-options = refl
+
+  fresh-ram : (fresh_state mapper sub flags known sizes options).memory.layout.prg_ram ≡ pages_for sizes.prg_ram
+  unfolding layout_of
+  fresh-ram = ap (λ (l : Layout). l.prg_ram) (fresh-layout mapper sub flags known sizes options)
+
+  pub room-fresh : r.refusal ≡ 0 → (n : ℕ) → room_for (load_needs_byte sizes options) n ≡ true → room_for (option_set r.state) n ≡ true
+  room-fresh z n h =
+      subst (λ (s : State). room_for (option_set s) n ≡ true) (sym (load_fresh z))
+      (subst (λ (b : Bool). room_for b n ≡ true) (sym (ap₂ needs_byte fresh-options fresh-ram)) h)

@@ -1,15 +1,18 @@
 -- N0, both ways: each host call is accepted exactly where none of its conditions holds, and refused by a number exactly where its condition
 -- is the first that holds. Refused, its word is that number and what was lent stays; Words.antt says that the number is the answer's low 8
 -- bits in every call.
-use Prim.Native.Nat.{ℕ}
+use Prim.Native.Nat.{ℕ, ◌≤◌}
 use mathlib.Core.Path.{◌≡◌, refl, sym, ap, ◌∙◌}
 use mathlib.Core.Bool.{Bool, true, false, cond, ◌||◌}
 use mathlib.Core.List.{List, [], ◌∷◌}
+use mathlib.Core.Logic.{◌↔◌}
 use native.Mathlib.Omega.{arith}
 use borrow.Author.Rules.{rules}
 use borrow.Author.Tests.{eq-eqb, ne_eqb}
 use lib.ListN.{length}
+use Rattle.limits.specs.Limits.{prg_ram_limit, prg_ram_pages}
 use Rattle.memory.specs.declared.layout.MemoryLayout.{MemoryLayout}
+use Rattle.memory.specs.Layout.{pages_for}
 use Rattle.board_state.specs.declared.Options.{Options}
 use Rattle.call_refusals.specs.Refusals.{Check, first_of, kind_check}
 use Rattle.call_refusals.proofs.Laws.{refused-is}
@@ -27,6 +30,10 @@ use Rattle.host.specs.Host.{on_image, cpu_own, load_gives, host_load_checks, hos
 use Rattle.host.specs.Blocks.{found_word, host_lookup, load_blocks_checks, host_load_blocks, host_load_places, blocks_own, host_write_blocks}
 use Rattle.host.specs.Blocks.{host_write_places, host_stored, host_stored_places}
 use Rattle.host.proofs.WithDirectory.{lookup-is, load-places, write-places, stored-places}
+
+-- N22: the bytes of PRG-RAM for which a load's image needs the byte of options
+pub full-ram : (bytes : ℕ) → (pages_for bytes ≡ prg_ram_pages) ↔ ((130049 ≤ bytes) × (bytes ≤ prg_ram_limit))
+full-ram bytes = ((λ e. (omega (arith, e), omega (arith, e))), (λ h. omega (arith, h.0, h.1)))
 
 -- N1, N4, N5, N6, N7
 pub load-decided : (img arena : List ℕ) (mapper : ℕ) (sizes : MemoryLayout) (options : Options)

@@ -12,7 +12,7 @@ use lib.ListN.{length}
 use Rattle.memory.specs.declared.layout.MemoryLayout.{MemoryLayout}
 use Rattle.board_state.specs.declared.Options.{Options}
 use Rattle.board_state.specs.declared.State.{State}
-use Rattle.board_state.specs.State.{any_option, Known}
+use Rattle.board_state.specs.State.{Known}
 use Rattle.board_state.proofs.Range.{known-passes}
 use Rattle.call_refusals.specs.Refusals.{Check, first_of, unless_refused, unless_kept, state_check, cpu_checks, load_checks}
 use Rattle.call_refusals.proofs.Laws.{Numbered, accepted-none, first_more, first_done, refused-is, accepted-is}
@@ -32,7 +32,7 @@ use Rattle.call_blocks.specs.Blocks.{load_gives, load_leaves, load_drops}
 use Rattle.call_blocks.proofs.Laws.{load-number}
 use Rattle.host_state.specs.HostState.{Gives, unaltered}
 use Rattle.host_blocks.specs.HostBlocks.{stored_touched, stored_drops}
-use Rattle.host.specs.Host.{on_image, cpu_own}
+use Rattle.host.specs.Host.{on_image, cpu_own, load_needs_byte}
 use Rattle.host.specs.Blocks.{found_word, host_lookup, host_find, load_blocks_checks, host_load_places, blocks_own, host_write_places}
 use Rattle.host.specs.Blocks.{host_stored_places}
 use Rattle.host.proofs.Laws.{state-read, in_image, image-refuses, image-passes}
@@ -101,7 +101,7 @@ either-given s d cs img lent g = rw (either_first s d cs)
 
 -- into an image of another length
 pub places-stay : (img arena d : List ℕ) (mapper : ℕ) (sizes : MemoryLayout) (options : Options)
-    → room_for (any_option options) (length img) ≡ false → d ≡ host_load_places img arena d mapper sizes options
+    → room_for (load_needs_byte sizes options) (length img) ≡ false → d ≡ host_load_places img arena d mapper sizes options
 unfolding first_of host_load_places
 places-stay img arena d mapper sizes options e = rw e
 
@@ -116,7 +116,7 @@ pub record LoadBlocks (img arena d : List ℕ) (mapper sub flags : ℕ) (known :
   pub places-after : load_drops d mapper sizes arena ≡ host_load_places img arena d mapper sizes options
 
 pub load-blocks : (img arena d : List ℕ) (mapper sub flags : ℕ) (known : Bool) (sizes : MemoryLayout) (options : Options) (r : Loaded)
-    → room_for (any_option options) (length img) ≡ true → r ≡ load_gives d mapper sub flags known sizes options (length arena)
+    → room_for (load_needs_byte sizes options) (length img) ≡ true → r ≡ load_gives d mapper sub flags known sizes options (length arena)
     → LoadBlocks img arena d mapper sub flags known sizes options r
 unfolding first_of load_gives load_leaves host_load_places
 load-blocks img arena d mapper sub flags known sizes options r i e = by (ℕ_discrete (length d) 256)
@@ -174,7 +174,7 @@ pub load-places : (img arena d : List ℕ) (mapper : ℕ) (sizes : MemoryLayout)
     → host_load_places img arena d mapper sizes options ≡ unless_kept (load_blocks_checks img arena d mapper sizes options) d emptied
 unfolding host_load_places load_drops
 load-places img arena d mapper sizes options =
-    kept-behind (room_check (any_option options) (length img) ∷ [])
+    kept-behind (room_check (load_needs_byte sizes options) (length img) ∷ [])
     (places_check d ∷ load_checks mapper sizes (length arena)) (search rules) d emptied
 
 -- K5

@@ -4,7 +4,6 @@ use Rattle.std.specs.Prelude.{ℕ, ◌+◌, ◌*◌, ◌^◌, List, [], ◌∷�
 use Rattle.memory.specs.declared.layout.MemoryLayout.{MemoryLayout}
 use Rattle.board_state.specs.declared.Options.{Options}
 use Rattle.board_state.specs.declared.State.{State}
-use Rattle.board_state.specs.State.{any_option}
 use Rattle.call_refusals.specs.Refusals.{Check, first_of, unless_refused, unless_kept, load_checks}
 use Rattle.image_write.specs.Writing.{room_check}
 use Rattle.image_read.specs.Reading.{state_in}
@@ -12,7 +11,7 @@ use Rattle.directory.specs.Calls.{Found, word_at, found_of, lookup}
 use Rattle.call_blocks.specs.Blocks.{directory_check, with_directory, cpu_write_drops, places_check, load_drops}
 use Rattle.host_state.specs.HostState.{Gives, unaltered, write_gives}
 use Rattle.host_blocks.specs.HostBlocks.{stored_drops}
-use Rattle.host.specs.Host.{on_image, cpu_own, load_gives}
+use Rattle.host.specs.Host.{on_image, cpu_own, load_needs_byte, load_gives}
 
 -- ---- lookup: K4, H6
 
@@ -31,7 +30,7 @@ host_find d start = found_word (found_of (word_at start d))
 
 abbrev pub load_blocks_checks : List ℕ → List ℕ → List ℕ → ℕ → MemoryLayout → Options → List Check
 load_blocks_checks img arena d mapper sizes options =
-    room_check (any_option options) (length img) ∷ places_check d ∷ load_checks mapper sizes (length arena)
+    room_check (load_needs_byte sizes options) (length img) ∷ places_check d ∷ load_checks mapper sizes (length arena)
 
 unfoldable pub host_load_blocks : List ℕ → List ℕ → List ℕ → ℕ → ℕ → ℕ → ℕ → MemoryLayout → Options → Gives
 host_load_blocks img arena d mapper sub flags known sizes options =
@@ -40,7 +39,7 @@ host_load_blocks img arena d mapper sub flags known sizes options =
 
 unfoldable pub host_load_places : List ℕ → List ℕ → List ℕ → ℕ → MemoryLayout → Options → List ℕ
 host_load_places img arena d mapper sizes options =
-    unless_kept (room_check (any_option options) (length img) ∷ []) d (load_drops d mapper sizes arena)
+    unless_kept (room_check (load_needs_byte sizes options) (length img) ∷ []) d (load_drops d mapper sizes arena)
 
 -- ---- CPU write: K5; N1, N2 of the image and of the directory, N7, N8
 

@@ -2,13 +2,12 @@
 -- host_state's.
 use Rattle.std.specs.Prelude.{ℕ, Bool, not, List, [], ◌∷◌, eqb, length}
 use Rattle.memory.specs.declared.layout.MemoryLayout.{MemoryLayout}
-use Rattle.memory.specs.Layout.{arena_len}
+use Rattle.memory.specs.Layout.{pages_for, arena_len}
 use Rattle.board_state.specs.declared.Options.{Options}
 use Rattle.board_state.specs.declared.State.{State}
-use Rattle.board_state.specs.State.{any_option}
 use Rattle.call_refusals.specs.Refusals.{Check, unless_refused, kind_check, arena_check, address_check, load_checks}
 use Rattle.call_load.specs.Cartridge.{fresh_state, load_arena}
-use Rattle.image_write.specs.Options.{image_at}
+use Rattle.image_write.specs.Options.{image_at, needs_byte}
 use Rattle.image_write.specs.Writing.{room_check, image_check}
 use Rattle.image_read.specs.Reading.{state_in, fields_check}
 use Rattle.host_state.specs.HostState.{Gives, unaltered, reset_gives, read_gives, write_gives, run_own, run_gives}
@@ -42,10 +41,14 @@ load_gives n arena mapper sub flags known sizes options =
       lent = load_arena mapper sizes arena;
     }
 
+-- H10, N22: whether its image needs the byte of options, by the options and the pages of PRG-RAM that it asks for
+abbrev pub load_needs_byte : MemoryLayout → Options → Bool
+load_needs_byte sizes options = needs_byte options (pages_for sizes.prg_ram)
+
 -- N20: refused by N1, then by a load's own checks
 abbrev pub host_load_checks : List ℕ → List ℕ → ℕ → MemoryLayout → Options → List Check
 host_load_checks img arena mapper sizes options =
-    room_check (any_option options) (length img) ∷ load_checks mapper sizes (length arena)
+    room_check (load_needs_byte sizes options) (length img) ∷ load_checks mapper sizes (length arena)
 
 unfoldable pub host_load : List ℕ → List ℕ → ℕ → ℕ → ℕ → ℕ → MemoryLayout → Options → Gives
 host_load img arena mapper sub flags known sizes options =

@@ -8,14 +8,14 @@ ghost use Rattle.host.specs.Blocks.{found_word, host_lookup, host_find, host_loa
 ghost use Rattle.host.specs.Blocks.{host_write_blocks, host_write_places};
 ghost use Rattle.host.specs.Blocks.{host_stored, host_stored_places};
 
-use crate::load::{options_of, sizes_of};
+use crate::load::{options_of, room_for_load, sizes_of};
 use call_blocks::calls::load;
 use call_load::Cartridge;
 use directory::block::Block;
 use directory::{find, lookup, register};
 use host_blocks::{stored_on, write_blocks_on};
 use image_read::reading::read_image;
-use image_write::writing::{put_image, room_for};
+use image_write::writing::put_image;
 use refusals::Refusal;
 use refusals::word::Word;
 
@@ -91,8 +91,9 @@ pub fn namco163_load_blocks(
     ensures directory_after { directory.new ≡ host_load_places image.old arena.old directory.old mapper
         (sizes_of prg_rom prg_ram battery chr chr_ram ciram) (options_of f800_protects signed_levels plain_sum) }
 {
+    let sizes = sizes_of(prg_rom, prg_ram, battery, chr, chr_ram, ciram);
     let options = options_of(f800_protects, signed_levels, plain_sum);
-    if !room_for(options.any(), image.len()) {
+    if !room_for_load(sizes, options, image.len()) {
         return Err(Refusal::Image);
     }
     // Written out as in lib.rt: a function for it would have these eleven parameters.
@@ -101,7 +102,7 @@ pub fn namco163_load_blocks(
         submapper,
         flags,
         known: in_database != 0,
-        sizes: sizes_of(prg_rom, prg_ram, battery, chr, chr_ram, ciram),
+        sizes,
         options,
     };
     let fresh = load(directory, arena, cartridge)?;

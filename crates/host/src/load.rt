@@ -3,12 +3,14 @@
 ghost use Rattle.std.specs.Prelude.{◌≡◌};
 ghost use Rattle.bits.specs.Fields.{bit};
 ghost use Rattle.refusals.specs.Refusal.{refusal_of};
-ghost use Rattle.host.specs.Host.{sizes_of, options_of, host_load};
+ghost use Rattle.image_write.specs.Options.{room_for};
+ghost use Rattle.host.specs.Host.{sizes_of, options_of, load_needs_byte, host_load};
 
 use board_state::Options;
 use call_load::{Cartridge, load};
+use image_write::words::needs_byte;
 use image_write::writing::{put_image, room_for};
-use memory::layout::MemoryLayout;
+use memory::layout::{MemoryLayout, pages_for};
 use refusals::Refusal;
 
 pub fn sizes_of(
@@ -42,6 +44,13 @@ pub fn options_of(f800_protects: u64, signed_levels: u64, plain_sum: u64) -> Opt
     }
 }
 
+// H10, N22: whether so many bytes hold the image of a load, by the options and the PRG-RAM that it asks for.
+pub fn room_for_load(sizes: MemoryLayout, options: Options, len: usize) -> bool
+    ensures { result ≡ room_for (load_needs_byte sizes options) len }
+{
+    room_for(needs_byte(options, pages_for(sizes.prg_ram)), len)
+}
+
 pub fn load_image(image: &mut [u8], arena: &mut [u8], cartridge: Cartridge) -> Result<(), Refusal>
     ensures value { refusal_of result ≡ (host_load image.old arena.old cartridge.mapper cartridge.submapper cartridge.flags
         (bit cartridge.known) cartridge.sizes cartridge.options).word }
@@ -50,7 +59,7 @@ pub fn load_image(image: &mut [u8], arena: &mut [u8], cartridge: Cartridge) -> R
     ensures arena_after { arena.new ≡ (host_load image.old arena.old cartridge.mapper cartridge.submapper cartridge.flags
         (bit cartridge.known) cartridge.sizes cartridge.options).lent }
 {
-    if !room_for(cartridge.options.any(), image.len()) {
+    if !room_for_load(cartridge.sizes, cartridge.options, image.len()) {
         return Err(Refusal::Image);
     }
     let fresh = load(arena, cartridge)?;

@@ -1,6 +1,6 @@
 -- A call on a state by the number that it answered: refused, with all as it was, or accepted; and what the state after it is known to be.
 use Prim.Native.Nat.{ℕ, ◌+◌, ◌*◌, ◌/◌, ◌^◌, ◌≤◌, ◌<◌}
-use mathlib.Core.Path.{◌≡◌, refl, sym, ap, subst, ◌∙◌}
+use mathlib.Core.Path.{◌≡◌, refl, sym, ap, ap₂, subst, ◌∙◌}
 use mathlib.Core.Bool.{Bool, true, false, cond}
 use mathlib.Core.List.{List, []}
 use native.Mathlib.Omega.{arith}
@@ -8,6 +8,8 @@ use borrow.Author.Tests.{le-ltb}
 use lib.Dec.{eqb}
 use lib.ListN.{length}
 use Rattle.limits.proofs.Each.{cond-holds}
+use Rattle.memory.specs.declared.Memory.{Memory}
+use Rattle.memory.specs.declared.layout.Layout.{Layout}
 use Rattle.memory.specs.Range.{Bytes}
 use Rattle.board_chip.specs.declared.namco163.Namco163.{Namco163}
 use Rattle.board_chip.specs.Namco163.{is163}
@@ -15,7 +17,7 @@ use Rattle.board_chip.specs.Reads.{after_read}
 use Rattle.board_chip.specs.Reset.{reset_chip}
 use Rattle.board_state.specs.declared.Options.{Options}
 use Rattle.board_state.specs.declared.State.{State}
-use Rattle.board_state.specs.State.{any_option, options_in, Known, with_chip}
+use Rattle.board_state.specs.State.{options_in, Known, with_chip}
 use Rattle.call_answers.specs.Answers.{Altered}
 use Rattle.call_refusals.specs.Refusals.{Check, first_of, unless_refused, reset_checks, cpu_checks}
 use Rattle.call_refusals.proofs.Laws.{refused-is, accepted-is, number_is, cpu-good}
@@ -23,12 +25,12 @@ use Rattle.call_cpu.specs.Calls.{ReadAnswer, cpu_read, WriteAnswer, refused_writ
 use Rattle.call_reset.specs.Reset.{kind_of, reset_state}
 use Rattle.call_run.specs.Run.{clocks, made}
 use Rattle.call_run.proofs.run.Laws.{made-floor}
-use Rattle.image_write.specs.Options.{image_at, option_set, room_for}
+use Rattle.image_write.specs.Options.{image_at, needs_byte, option_set, room_for}
 use Rattle.thm_machine.specs.Calls.{cpu_write as call_write}
 use Rattle.thm_machine.specs.Board.{other_gives}
 use Rattle.thm_steps.proofs.Chip.{Keeps, after-read-keeps, reset-keeps}
 use Rattle.thm_steps.proofs.Choice.{read-choice, write-choice}
-use Rattle.thm_range.proofs.Calls.{other_fits}
+use Rattle.thm_range.proofs.Calls.{other_fits, clocks-memory, register-layout}
 use Rattle.thm_range.proofs.Options.{options-same, clocks-keep-options}
 use Rattle.host_state.specs.HostState.{Gives, unaltered, reset_gives, read_gives, write_gives, short_run, short_samples}
 
@@ -152,38 +154,56 @@ known-write s arena addr v r e b bytes z k =
 
 -- ---- and the bytes that held the state before hold it after
 
-room-same : (s t : State) (n : ℕ) → options_in t ≡ options_in s → room_for (option_set s) n ≡ true → room_for (option_set t) n ≡ true
-room-same s t n e r = subst (λ (o : Options). room_for (any_option o) n ≡ true) (sym e) r
+-- a call keeps the options and the page counts
+record Alike (s t : State) : Type 0 where
+  options : options_in t ≡ options_in s
+  layout : t.memory.layout ≡ s.memory.layout
+
+alike : (s : State) → Alike s s
+alike s = record { options = refl; layout = refl }
+
+room-same : (s t : State) (n : ℕ) → Alike s t → room_for (option_set s) n ≡ true → room_for (option_set t) n ≡ true
+room-same s t n a r =
+    subst (λ (b : Bool). room_for b n ≡ true) (sym (ap₂ (λ (o : Options) (l : Layout). needs_byte o l.prg_ram) a.options a.layout)) r
 
 pub room-reset : (s : State) (kind : ℕ) (r : Altered) (n : ℕ) → r ≡ reset_state s kind → room_for (option_set s) n ≡ true
     → room_for (option_set r.state) n ≡ true
 unfolding reset_state reset_chip
 room-reset s kind r n e =
-    let P : Altered → Type 0 = λ x. options_in x.state ≡ options_in s in
-    room-same s r.state n (subst P (sym e) (cond-holds P (eqb (first_of (reset_checks s kind)) 0) _ _ refl refl))
+    let P : Altered → Type 0 = λ x. Alike s x.state in
+    room-same s r.state n
+    (subst P (sym e)
+    (cond-holds P (eqb (first_of (reset_checks s kind)) 0) _ _ (record { options = refl; layout = refl }) (alike s)))
 
 pub room-read : (s : State) (arena : List ℕ) (addr : ℕ) (r : ReadAnswer) (n : ℕ) → r ≡ cpu_read s arena addr → room_for (option_set s) n ≡ true
     → room_for (option_set r.state) n ≡ true
 unfolding cpu_read
 room-read s arena addr r n e =
-    let P : ReadAnswer → Type 0 = λ x. options_in x.state ≡ options_in s in
+    let P : ReadAnswer → Type 0 = λ x. Alike s x.state in
     room-same s r.state n
     (subst P (sym e)
     (cond-holds P (eqb (first_of (cpu_checks s (length arena) addr)) 0) _ _
-    (options-same s (with_chip s (after_read s.chip addr)) refl (read-choice s.chip addr)) refl))
+    (record { options = options-same s (with_chip s (after_read s.chip addr)) refl (read-choice s.chip addr); layout = refl })
+    (alike s)))
 
 pub room-write : (s : State) (arena : List ℕ) (addr v : ℕ) (r : WriteAnswer) (n : ℕ) → r ≡ cpu_write s arena addr v
     → room_for (option_set s) n ≡ true → room_for (option_set r.state) n ≡ true
 unfolding cpu_write write_register
 room-write s arena addr v r n e =
-    let P : WriteAnswer → Type 0 = λ x. options_in x.state ≡ options_in s in
+    let P : WriteAnswer → Type 0 = λ x. Alike s x.state in
     room-same s r.state n
     (subst P (sym e)
     (cond-holds P (eqb (first_of (cpu_checks s (length arena) addr)) 0) _ _
-    (options-same s (write_register s addr v) refl (write-choice s.chip addr v)) refl))
+    (record {
+      options = options-same s (write_register s addr v) refl (write-choice s.chip addr v);
+      layout = register-layout s addr v;
+    })
+    (alike s)))
 
 pub room-clocks : (s : State) (k n : ℕ) → room_for (option_set s) n ≡ true → room_for (option_set (clocks k s).state) n ≡ true
-room-clocks s k n = room-same s (clocks k s).state n (clocks-keep-options k s)
+room-clocks s k n =
+    room-same s (clocks k s).state n
+    (record { options = clocks-keep-options k s; layout = ap (λ (m : Memory). m.layout) (clocks-memory k s) })
 
 -- a read outside the sound port leaves it as it was
 pub still_read : (s : State) (arena : List ℕ) (addr : ℕ) (r : ReadAnswer) → r ≡ cpu_read s arena addr → 0x5000 ≤ addr

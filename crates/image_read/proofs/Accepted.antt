@@ -18,8 +18,8 @@ use Rattle.image_write.specs.Image.{image_bytes, part, part_widths, joined, chip
 use Rattle.image_write.specs.Options.{room_for}
 use Rattle.image_write.specs.Sections.{chip_at, ram_at, out_at, phases_at}
 use Rattle.image_read.specs.declared.head.Head.{Head}
-use Rattle.image_read.specs.Reading.{cut_into, options_from, state_from, state_of, fields_ok, fields_of, options_of, body_in, byte_in, state_in}
-use Rattle.image_read.specs.Reading.{image_ok, refused_read, read_image, read_body}
+use Rattle.image_read.specs.Reading.{cut_into, options_from, high_from, unused_from, state_from, state_of, fields_ok, fields_of, options_of}
+use Rattle.image_read.specs.Reading.{body_in, byte_in, state_in, image_ok, refused_read, read_image, read_body}
 use Rattle.image_read.specs.Sections.{fields_at, head_parts, sound_at, memory_at, state_at}
 use Rattle.image_read.proofs.Fields.{out-at}
 use Rattle.image_read.proofs.Known.{image-known}
@@ -53,41 +53,43 @@ module _ (img : List ℕ) where
 
 -- ---- the options of their byte
 
-unused-is : (byte : ℕ) → get_or (options_of byte) 3 0 ≡ byte % 32
+pub unused-is : (byte : ℕ) → unused_from (options_of byte) ≡ byte % 16
 unfolding unpack total
 unused-is byte = omega arith
 
-pub refused-unused : (body : List ℕ) (byte : ℕ) → (byte % 32 ≡ 0 → ⊥) → read_body body byte ≡ refused_read 2
+pub refused-unused : (body : List ℕ) (byte : ℕ) → (byte % 16 ≡ 0 → ⊥) → read_body body byte ≡ refused_read 2
 unfolding read_body fields_ok
 refused-unused body byte n =
-    rw (unused-is byte, ne_eqb (byte % 32) 0 n, and-false (leb (get_or (part (cut_into part_widths (fields_of body)) 1) 1 0) 4))
+    rw (unused-is byte, ne_eqb (byte % 16) 0 n, and-false (leb (get_or (part (cut_into part_widths (fields_of body)) 1) 1 0) 4))
 
 -- ---- the state of an image's body
 
--- a body of `image_bytes` bytes with a byte of options that has no unused bit, its board's words, the bits of its `out`, and its options
-pub record Opened (body : List ℕ) (byte : ℕ) (h : Head) (bits : ℕ) (chosen : Options) : Type 0 where
+-- a body of `image_bytes` bytes with a byte of options that has no unused bit, its board's words, the bits of its `out`, its options, and
+-- the high bit of its count of PRG-RAM pages
+pub record Opened (body : List ℕ) (byte : ℕ) (h : Head) (bits : ℕ) (chosen : Options) (high : ℕ) : Type 0 where
   pub long : length body ≡ image_bytes
   pub bytes : Bytes body
-  pub unused : byte % 32 ≡ 0
+  pub unused : byte % 16 ≡ 0
   pub head : fields_at (joined chip_widths) body chip_at (ram_at - chip_at) ≡ joined (head_parts h)
   pub out : bits ≡ word_of (take (phases_at - out_at) (drop out_at body))
   pub small : bits < 2 ^ 32
   pub options : chosen ≡ options_from (options_of byte)
+  pub ram : high ≡ high_from (options_of byte)
 
-module _ (body : List ℕ) (byte : ℕ) (h : Head) (bits : ℕ) (chosen : Options) (o : Opened body byte h bits chosen) where
+module _ (body : List ℕ) (byte : ℕ) (h : Head) (bits : ℕ) (chosen : Options) (high : ℕ) (o : Opened body byte h bits chosen high) where
   abbrev held : State
-  held = state_at body h bits chosen
+  held = state_at body h bits chosen high
 
   pub state-is : state_of (fields_of body) (options_of byte) ≡ held
   unfolding state_of state_from sound_at memory_at
-  state-is = rw (image-parts body o.long o.bytes h o.head, out-at body bits o.out o.small, o.options)
+  state-is = rw (image-parts body o.long o.bytes h o.head, out-at body bits o.out o.small, o.options, o.ram)
 
   ok-is : fields_ok (fields_of body) (options_of byte) ≡ leb (h.detection / 2 % 8) 4 && in_range held
   unfolding fields_ok unpack total
   ok-is =
-      ap₂ (λ (p : List (List ℕ)) (s : State). leb (get_or (part p 1) 1 0) 4 && (eqb (get_or (options_of byte) 3 0) 0 && in_range s))
+      ap₂ (λ (p : List (List ℕ)) (s : State). leb (get_or (part p 1) 1 0) 4 && (eqb (unused_from (options_of byte)) 0 && in_range s))
       (image-parts body o.long o.bytes h o.head) state-is
-      ∙ rw (unused-is byte, eq-eqb (byte % 32) 0 o.unused)
+      ∙ rw (unused-is byte, eq-eqb (byte % 16) 0 o.unused)
 
   refused : fields_ok (fields_of body) (options_of byte) ≡ false → read_body body byte ≡ refused_read 2
   unfolding read_body

@@ -9,3 +9,4 @@ pub mod Accepted
 pub mod Values
 pub mod States
 pub mod RoundTrip
+pub mod Older

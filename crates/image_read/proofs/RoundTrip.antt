@@ -5,7 +5,7 @@ use mathlib.Core.Bool.{Bool, true, false, ◌&&◌, ◌||◌, true≢false}
 use mathlib.Core.List.{List, [], ◌∷◌, ◌++◌}
 use Prim.Native.Nat.{ℕ, zero, suc, ◌+◌, ◌≤◌, ◌<◌}
 use native.Mathlib.Omega.{arith}
-use borrow.Author.Tests.{not-false, eqb-true, leb-true, le-leb}
+use borrow.Author.Tests.{not-false, eqb-true, eqb-false, ne_eqb, leb-true, le-leb}
 use lib.Dec.{eqb, leb}
 use lib.ListN.{length, take, get_or, length-append, get_or-eq_default}
 use lib.Seq.{take_at, take-length, length-take-le, get_or-append_seam}
@@ -14,26 +14,27 @@ use Rattle.bits.specs.Words.{word_of, bytes_of}
 use Rattle.bits.proofs.Fields.{fit-unpack, unpack-pack, pack-unpack, bit-lt}
 use Rattle.bits.proofs.RoundTrip.{fields_back, bytes_back}
 use Rattle.board_state.specs.declared.State.{State}
-use Rattle.board_state.specs.State.{any_option, options_in, in_range, Known}
+use Rattle.board_state.specs.State.{options_in, in_range, Known}
 use Rattle.board_state.proofs.Range.{known-passes}
 use Rattle.memory.specs.Range.{Bytes}
+use Rattle.limits.specs.Limits.{prg_ram_pages}
 use Rattle.limits.proofs.Every.{and_left, and_right}
 use Rattle.call_refusals.specs.Refusals.{first_of}
 use Rattle.call_refusals.proofs.Laws.{accepted-none, number_is}
-use Rattle.image_write.specs.Image.{image_bytes, part, part_widths, part_fields, widths, fields, image_of}
-use Rattle.image_write.specs.Options.{options_image_bytes, option_widths, option_fields, options_byte, image_at, option_set, room_for}
-use Rattle.image_write.specs.Options.{Room, short, long}
+use Rattle.image_write.specs.Image.{image_bytes, ram_high, ram_pages, part, part_widths, part_fields, widths, fields, image_of}
+use Rattle.image_write.specs.Options.{options_image_bytes, option_widths, option_fields, options_byte, image_at, needs_byte, option_set}
+use Rattle.image_write.specs.Options.{room_for, Room, short, long}
 use Rattle.image_write.proofs.Parts.{◌then◌}
 use Rattle.image_write.proofs.Whole.{total-widths}
 use Rattle.image_write.proofs.writing.Laws.{room, short-room, long-room, room-none, length-image, image-short, image-long}
 use Rattle.image_read.specs.Reading.{ReadImage}
-use Rattle.image_read.specs.Reading.{cut_into, options_from, state_from, state_of, fields_ok, fields_of, options_of, body_in, byte_in, state_in}
-use Rattle.image_read.specs.Reading.{image_ok, read_checks, refused_read, read_image, read_body}
+use Rattle.image_read.specs.Reading.{cut_into, options_from, high_from, unused_from, state_from, state_of, fields_ok, fields_of, options_of}
+use Rattle.image_read.specs.Reading.{body_in, byte_in, state_in, image_ok, read_checks, refused_read, read_image, read_body}
 use Rattle.image_read.proofs.Accepted.{accepted, read_is}
 use Rattle.image_read.proofs.Known.{image-known}
 use Rattle.image_read.proofs.Parts.{fit-joined, same-lengths}
 use Rattle.image_read.proofs.Sections.{cut-joined}
-use Rattle.image_read.proofs.States.{options-back, state-back, state-fits, options-num, fields-num}
+use Rattle.image_read.proofs.States.{options-back, state-back, state-fits, high-num, low_in, low-small, options-num, fields-num}
 use Rattle.image_read.proofs.Values.{mirroring-most}
 
 -- ---- what is accepted
@@ -55,7 +56,7 @@ in-range-accepted img l e = ap (λ r. r.refusal) (accepted img l e)
 -- what the fields' test says: the mirroring, the unused bits, the state
 pub record FieldsPass (body : List ℕ) (options : List ℕ) : Type 0 where
   pub mirroring : get_or (part (cut_into part_widths (fields_of body)) 1) 1 0 ≤ 4
-  pub unused : get_or options 3 0 ≡ 0
+  pub unused : unused_from options ≡ 0
   pub range : in_range (state_of (fields_of body) options) ≡ true
 
 pub fields-pass : (body options : List ℕ) → fields_ok (fields_of body) options ≡ true → FieldsPass body options
@@ -65,8 +66,8 @@ fields-pass body options e =
     let r = and_right m _ e in
     record {
       mirroring = leb-true _ 4 (and_left m _ e);
-      unused = eqb-true (get_or options 3 0) 0 (and_left (eqb (get_or options 3 0) 0) _ r);
-      range = and_right (eqb (get_or options 3 0) 0) _ r;
+      unused = eqb-true (unused_from options) 0 (and_left (eqb (unused_from options) 0) _ r);
+      range = and_right (eqb (unused_from options) 0) _ r;
     }
 
 -- the state of an accepted image is known: its fields fit their widths, and it is in range
@@ -79,16 +80,22 @@ read_known img e =
 
 -- ---- a state, its image at either length, and that state again
 
--- without an option the byte is 0
-no-option : (s : State) → option_set s ≡ false → options_byte s ≡ 0
+-- where no bit of the options is set the byte is 0
+no-option : (s : State) → s.memory.layout.prg_ram ≤ prg_ram_pages → option_set s ≡ false → options_byte s ≡ 0
 unfolding options_byte pack total
-no-option s e = let o = options_in s in go o.f800_protects o.signed_levels o.plain_sum e
+no-option s most e =
+    let o = options_in s in
+    go o.f800_protects o.signed_levels o.plain_sum e
   where
-    go : (a b c : Bool) → a || (b || c) ≡ false → pack option_widths (bit a ∷ bit b ∷ bit c ∷ 0 ∷ []) ≡ 0
+    pages : ℕ
+    pages = s.memory.layout.prg_ram
+
+    go : (a b c : Bool) → (a || (b || c)) || eqb pages prg_ram_pages ≡ false
+        → pack option_widths (bit a ∷ bit b ∷ bit c ∷ ram_high pages ∷ 0 ∷ []) ≡ 0
     go true b c e = absurd (true≢false e)
     go false true c e = absurd (true≢false e)
     go false false true e = absurd (true≢false e)
-    go false false false e = refl
+    go false false false e = let n = eqb-false pages prg_ram_pages e in omega arith
 
 module _ (s : State) (k : Known s) where
   fits : Fit widths (fields s)
@@ -103,21 +110,25 @@ module _ (s : State) (k : Known s) where
   unfolding fields
   cut = cut-joined part_widths (part_fields s) (same-lengths part_widths (part_fields s) (state-fits s k))
 
-  options-are : options_of (options_byte s) ≡ option_fields (options_in s)
+  most : s.memory.layout.prg_ram ≤ prg_ram_pages
+  most = k.range.memory.ranged.sized.layout.prg_ram
+
+  options-are : options_of (options_byte s) ≡ option_fields (options_in s) s.memory.layout.prg_ram
   unfolding options_byte
   options-are =
       let o = options_in s in
-      unpack-pack option_widths (option_fields o)
-      (bit-lt o.f800_protects then bit-lt o.signed_levels then bit-lt o.plain_sum then omega arith then tt)
+      unpack-pack option_widths (option_fields o s.memory.layout.prg_ram)
+      (bit-lt o.f800_protects then bit-lt o.signed_levels then bit-lt o.plain_sum then omega (arith, most) then omega arith then tt)
 
   state : state_of (fields_of (image_of s)) (options_of (options_byte s)) ≡ s
   unfolding state_of
-  state = ap₂ state_of fields-are options-are ∙ rw (cut, options-back (options_in s)) (state-back s k)
+  state = ap₂ state_of fields-are options-are ∙ rw (cut, options-back (options_in s) s.memory.layout.prg_ram) (state-back s k)
 
   ok : fields_ok (fields_of (image_of s)) (options_of (options_byte s)) ≡ true
   unfolding fields_ok
   ok =
-      ap₂ (λ (p : List (List ℕ)) (x : State). leb (get_or (part p 1) 1 0) 4 && (eqb (get_or (options_of (options_byte s)) 3 0) 0 && in_range x))
+      let unused = unused_from (options_of (options_byte s)) in
+      ap₂ (λ (p : List (List ℕ)) (x : State). leb (get_or (part p 1) 1 0) 4 && (eqb unused 0 && in_range x))
       (ap (cut_into part_widths) fields-are ∙ cut) state
       ∙ rw (le-leb _ 4 (mirroring-most s.chip.mirroring), options-are, known-passes s k)
 
@@ -141,7 +152,7 @@ module _ (s : State) (k : Known s) where
             body = ap (take image_bytes) i ∙ ap (λ (m : ℕ). take m (image_of s)) (sym l) ∙ take-length (image_of s);
             byte = ap (λ (x : List ℕ). get_or x image_bytes 0) i
                 ∙ get_or-eq_default (image_of s) 0 {n = image_bytes} (omega (arith, l))
-                ∙ sym (no-option s f);
+                ∙ sym (no-option s most f);
           }
       by (long e) =
           let i = image-long s n e in
@@ -177,11 +188,11 @@ body-again body options b l p =
     ∙ bytes_back widths image_bytes total-widths body l b
 
 -- a byte without unused bits is that of its options
-byte-again : (byte : ℕ) → byte < 256 → get_or (options_of byte) 3 0 ≡ 0
-    → pack option_widths (option_fields (options_from (options_of byte))) ≡ byte
+byte-again : (byte pages : ℕ) → byte < 256 → ram_high pages ≡ high_from (options_of byte) → unused_from (options_of byte) ≡ 0
+    → pack option_widths (option_fields (options_from (options_of byte)) pages) ≡ byte
 unfolding total
-byte-again byte h u =
-    ap (pack option_widths) (options-num (options_of byte) (fit-unpack option_widths byte) u) ∙ pack-unpack option_widths byte h
+byte-again byte pages h e u =
+    ap (pack option_widths) (options-num (options_of byte) pages (fit-unpack option_widths byte) e u) ∙ pack-unpack option_widths byte h
 
 take-bytes : (n : ℕ) (xs : List ℕ) → Bytes xs → Bytes (take n xs)
 take-bytes zero xs b i = b-none i
@@ -200,10 +211,19 @@ body-and-byte (x ∷ []) (suc n) e = absurd (omega arith)
 body-and-byte (x ∷ y ∷ xs) zero e = absurd (omega arith)
 body-and-byte (x ∷ y ∷ xs) (suc n) e = ap (λ (l : List ℕ). x ∷ l) (body-and-byte (y ∷ xs) n (omega arith))
 
--- a byte of 0 sets no option
+-- the seven bits of an image's count of PRG-RAM pages
+low-fits : (img : List ℕ) → low_in (fields_of (body_in img)) < 128
+unfolding fields_of
+low-fits img = low-small (fields_of (body_in img)) (fit-unpack widths (word_of (body_in img)))
+
+-- a byte of 0 sets no option, and leaves a count of seven bits
 pub optionless : (img : List ℕ) → byte_in img ≡ 0 → option_set (state_in img) ≡ false
 unfolding state_of state_from unpack total
-optionless img z = ap (λ (b : ℕ). any_option (options_from (options_of b))) z
+optionless img z =
+    let low = low_in (fields_of (body_in img)) in
+    let pages = ram_pages 0 low in
+    ap (λ (b : ℕ). needs_byte (options_from (options_of b)) (ram_pages (high_from (options_of b)) low)) z
+    ∙ ne_eqb pages prg_ram_pages (λ e. omega (arith, low-fits img, e))
 
 -- an image's bytes hold its state
 pub roomy-in : (img : List ℕ) → room_for false (length img) ≡ true → room_for (option_set (state_in img)) (length img) ≡ true
@@ -232,7 +252,7 @@ module _ (img : List ℕ) (b : Bytes img) where
       front l = body-again (body_in img) (options_of (byte_in img)) (take-bytes image_bytes img b) l p
 
       last : options_byte (state_in img) ≡ byte_in img
-      last = byte-again (byte_in img) (b image_bytes) p.unused
+      last = byte-again (byte_in img) _ (b image_bytes) (high-num _ _ (low-fits img)) p.unused
 
       by : Room false (length img) → Again (state_in img)
       by (short l f) =

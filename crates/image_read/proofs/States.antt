@@ -26,14 +26,14 @@ use Rattle.board_state.specs.State.{options_in, Known}
 use Rattle.limits.specs.Limits.{used_most, prg_entries, chr_entries}
 use Rattle.memory.specs.declared.layout.Layout.{Layout}
 use Rattle.memory.specs.Range.{UsedIn}
-use Rattle.image_write.specs.Image.{part, joined, part_widths, part_fields, level_num, page_widths, page_fields, layout_widths}
-use Rattle.image_write.specs.Image.{widths, fields}
+use Rattle.image_write.specs.Image.{ram_low, ram_high, ram_pages, part, joined, part_widths, part_fields, level_num, page_widths}
+use Rattle.image_write.specs.Image.{page_fields, layout_widths, widths, fields}
 use Rattle.image_write.specs.Options.{option_widths, option_fields}
 use Rattle.image_write.specs.Pages.{PagesFit}
 use Rattle.image_write.proofs.Levels.{level-fits}
 use Rattle.image_write.proofs.Parts.{◌then◌, fit-replicate}
 use Rattle.image_write.proofs.pages.Laws.{prg-fit, chr-fit}
-use Rattle.image_read.specs.Reading.{is_set, cut_into, output_from, options_from, state_from, state_of}
+use Rattle.image_read.specs.Reading.{is_set, cut_into, output_from, options_from, high_from, unused_from, state_from, state_of}
 use Rattle.image_read.proofs.Out.{out-back}
 use Rattle.image_read.proofs.Parts.{FitParts, fit_cut, joined-cut, fit-get}
 use Rattle.image_read.proofs.Values.{bit-back, is-set-back, board-back, board-num, mirroring-back, mirroring-most, mirroring-num}
@@ -45,11 +45,15 @@ used-back u l (inr h) = rw h.0
 
 -- ---- a state in range comes back from its fields
 
-pub options-back : (o : Options) → options_from (option_fields o) ≡ o
-options-back o = simp bit-back
+pub options-back : (o : Options) (pages : ℕ) → options_from (option_fields o pages) ≡ o
+options-back o pages = simp bit-back
+
+-- H12: a count of its high bit and the low seven
+ram-back : (pages : ℕ) → ram_pages (ram_high pages) (ram_low pages) ≡ pages
+ram-back pages = omega arith
 
 module _ (s : State) (k : Known s) where
-  pub state-back : state_from (part_fields s) (options_in s) ≡ s
+  pub state-back : state_from (part_fields s) (options_in s) (ram_high s.memory.layout.prg_ram) ≡ s
   unfolding state_from
   state-back =
       let n = s.chip in
@@ -68,7 +72,7 @@ module _ (s : State) (k : Known s) where
       let chr = pages-back (arena_pages m.layout) m.chr_pages t.memory.chr_words
       (λ i l. r.ranged.chr i (omega (arith, t.memory.chr))) in
       let used = used-back m.battery_ext_len m.layout r.used in
-      simp (bit-back, board-back, mirroring-back, flags, outs, out, used, prg, chr)
+      simp (bit-back, board-back, mirroring-back, flags, outs, out, used, prg, chr, ram-back m.layout.prg_ram)
 
 -- ---- its fields fit their widths
 
@@ -121,7 +125,7 @@ module _ (s : State) (k : Known s) where
       then (omega (arith, g.address) then bit-lt a.auto_increment then bit-lt a.disabled then omega (arith, g.counter)
       then omega (arith, g.channel) then tt)
       then levels then (to_bits-lt binary32 a.out y.out_fits then tt) then phases then prgs then chrs
-      then (omega (arith, l.prg_rom) then omega (arith, l.prg_ram) then omega (arith, l.battery) then omega (arith, l.chr)
+      then (omega (arith, l.prg_rom) then omega arith then omega (arith, l.battery) then omega (arith, l.chr)
       then bit-lt m.layout.chr_writable then omega (arith, l.ciram) then bit-lt (eqb m.battery_ext_len used_most) then tt)
       then tt
 
@@ -136,14 +140,32 @@ used-num zero h = refl
 used-num (suc zero) h = refl
 used-num (suc (suc v)) h = absurd (let z : ⊥ = omega arith in z)
 
--- H9, H11: so do the options, where the bits that mean nothing are clear
-pub options-num : (fs : List ℕ) → Fit option_widths fs → get_or fs 3 0 ≡ 0 → option_fields (options_from fs) ≡ fs
-options-num fs f unused =
-    let last = rw unused at (listed-is 0 4 fs (sym (fit_length option_widths fs f))) in
+-- H12: so do the two parts of a count
+pub high-num : (high low : ℕ) → low < 128 → ram_high (ram_pages high low) ≡ high
+high-num high low h = omega arith
+
+low-num : (high low : ℕ) → low < 128 → ram_low (ram_pages high low) ≡ low
+low-num high low h = omega arith
+
+-- the low one among fields
+abbrev pub low_in : List ℕ → ℕ
+low_in vs = get_or (part (cut_into part_widths vs) 12) 1 0
+
+pub low-small : (vs : List ℕ) → Fit widths vs → low_in vs < 128
+unfolding cut_into widths
+low-small vs f =
+    fit-get layout_widths (part (cut_into part_widths vs) 12) (fit_cut part_widths vs f).1.1.1.1.1.1.1.1.1.1.1.1.0 1 (omega arith)
+
+-- H9, H11, H12: and the options with the high bit, where the bits that mean nothing are clear
+pub options-num : (fs : List ℕ) (pages : ℕ) → Fit option_widths fs → ram_high pages ≡ high_from fs → unused_from fs ≡ 0
+    → option_fields (options_from fs) pages ≡ fs
+options-num fs pages f high unused =
+    let last = rw unused at (listed-is 0 5 fs (sym (fit_length option_widths fs f))) in
     rw (
       is-set-at option_widths fs f 0 (omega arith) refl,
       is-set-at option_widths fs f 1 (omega arith) refl,
       is-set-at option_widths fs f 2 (omega arith) refl,
+      high,
     ) last
 
 module _ (vs options : List ℕ) (f : Fit widths vs) (k : Known (state_of vs options))
@@ -154,7 +176,8 @@ module _ (vs options : List ℕ) (f : Fit widths vs) (k : Known (state_of vs opt
       let ps = cut_into part_widths vs in
       let fp = fit_cut part_widths vs f in
       let o = options_from options in
-      let s = state_from ps o in
+      let high = high_from options in
+      let s = state_from ps o high in
       let signed = o.signed_levels in
       let g = k.range.chip.audio in
       let p0 = part ps 0 in let w0 = part part_widths 0 in let f0 = fp.0 in
@@ -194,6 +217,7 @@ module _ (vs options : List ℕ) (f : Fit widths vs) (k : Known (state_of vs opt
       let layout : part (part_fields s) 12 ≡ p12 =
       rw (
         is-set-at layout_widths p12 f12 4 (omega arith) refl,
+        low-num high (get_or p12 1 0) (fit-get layout_widths p12 f12 1 (omega arith)),
         used-num (get_or p12 6 0) (fit-get layout_widths p12 f12 6 (omega arith)),
       ) (listed-is 0 7 p12 (sym (fit_length layout_widths p12 f12))) in
       let all : fields s ≡ joined ps = λ i. joined

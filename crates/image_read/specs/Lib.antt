@@ -2,3 +2,4 @@
 pub mod Reading
 pub mod Sections
 pub mod Pages
+pub mod Older

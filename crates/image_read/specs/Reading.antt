@@ -25,7 +25,7 @@ use Rattle.board_state.specs.None.{no_state}
 use Rattle.refusals.specs.declared.Refusal.{Refusal}
 use Rattle.call_refusals.specs.declared.known.KnownState.{KnownState}
 use Rattle.refusals.specs.Refusal.{answered}
-use Rattle.image_write.specs.Image.{image_bytes, part, part_widths, widths}
+use Rattle.image_write.specs.Image.{image_bytes, ram_pages, part, part_widths, widths}
 use Rattle.image_write.specs.Options.{option_widths}
 use Rattle.image_write.specs.Writing.{image_check}
 
@@ -116,14 +116,14 @@ chip_from regs detection flags chr prg audio =
       prg_banks = prg;
     }
 
--- the memory of its three parts: PRG entries, CHR entries, layout
-abbrev pub memory_from : List ℕ → List ℕ → List ℕ → Memory
-memory_from prg chr layout =
+-- the memory of its three parts, PRG entries, CHR entries, layout, and of the high bit of the count of PRG-RAM pages (H12)
+abbrev pub memory_from : List ℕ → List ℕ → List ℕ → ℕ → Memory
+memory_from prg chr layout high =
     record {
       layout =
           record {
             prg_rom = get_or layout 0 0;
-            prg_ram = get_or layout 1 0;
+            prg_ram = ram_pages high (get_or layout 1 0);
             battery_ext = get_or layout 2 0;
             chr = get_or layout 3 0;
             chr_writable = is_set (get_or layout 4 0);
@@ -139,20 +139,28 @@ abbrev pub options_from : List ℕ → Options
 options_from fs =
     record { f800_protects = is_set (get_or fs 0 0); signed_levels = is_set (get_or fs 1 0); plain_sum = is_set (get_or fs 2 0) }
 
--- the state of the thirteen parts and the options
-unfoldable pub state_from : List (List ℕ) → Options → State
-state_from ps options =
+-- H12: and the high bit of the count of PRG-RAM pages
+abbrev pub high_from : List ℕ → ℕ
+high_from fs = get_or fs 3 0
+
+-- H9: the bits that mean nothing
+abbrev pub unused_from : List ℕ → ℕ
+unused_from fs = get_or fs 4 0
+
+-- the state of the thirteen parts, the options and the high bit
+unfoldable pub state_from : List (List ℕ) → Options → ℕ → State
+state_from ps options high =
     record {
       chip =
           chip_from (part ps 0) (part ps 1) (part ps 2) (part ps 3) (part ps 4)
           (audio_from (part ps 5) (part ps 6) (part ps 7) (part ps 8) (part ps 9) options);
-      memory = memory_from (part ps 10) (part ps 11) (part ps 12);
+      memory = memory_from (part ps 10) (part ps 11) (part ps 12) high;
       f800_protects = options.f800_protects;
     }
 
--- the state of all fields and of the options
+-- the state of all fields and of those of the byte of options
 unfoldable pub state_of : List ℕ → List ℕ → State
-state_of vs options = state_from (cut_into part_widths vs) (options_from options)
+state_of vs options = state_from (cut_into part_widths vs) (options_from options) (high_from options)
 
 -- ---- which images are accepted: N1, N2
 
@@ -162,7 +170,7 @@ state_of vs options = state_from (cut_into part_widths vs) (options_from options
 unfoldable pub fields_ok : List ℕ → List ℕ → Bool
 fields_ok vs options =
     leb (get_or (part (cut_into part_widths vs) 1) 1 0) 4
-    && (eqb (get_or options 3 0) 0
+    && (eqb (unused_from options) 0
     && in_range (state_of vs options))
 
 -- the fields of the bytes before the options

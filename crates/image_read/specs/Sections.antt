@@ -41,15 +41,16 @@ sound_at img bits options =
     (fields_at (part sound_widths 4) img phases_at (prg_pages_at - phases_at))
     options
 
--- the memory
-unfoldable pub memory_at : List ℕ → Memory
-memory_at img =
+-- the memory, given the high bit of its count of PRG-RAM pages
+unfoldable pub memory_at : List ℕ → ℕ → Memory
+memory_at img high =
     memory_from
     (fields_at (part memory_widths 0) img prg_pages_at (chr_pages_at - prg_pages_at))
     (fields_at (part memory_widths 1) img chr_pages_at (layout_at - chr_pages_at))
     (fields_at (part memory_widths 2) img layout_at (image_bytes - layout_at))
+    high
 
--- the state, given the board's words, the bits of `out` and the options
-abbrev pub state_at : List ℕ → Head → ℕ → Options → State
-state_at img h bits options =
-    record { chip = chip_of h (sound_at img bits options); memory = memory_at img; f800_protects = options.f800_protects }
+-- the state, given the board's words, the bits of `out`, the options and that bit
+abbrev pub state_at : List ℕ → Head → ℕ → Options → ℕ → State
+state_at img h bits options high =
+    record { chip = chip_of h (sound_at img bits options); memory = memory_at img high; f800_protects = options.f800_protects }

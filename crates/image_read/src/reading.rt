@@ -10,8 +10,8 @@ ghost use Rattle.image_read.specs.Sections.{fields_at, head_parts, chip_of, soun
 use crate::head::Head;
 use crate::pages::get_pages;
 use crate::words::{
-    board_numbered, chr_banks_of, flags_of, mirroring_numbered, options_numbered, output_numbered,
-    prg_banks_of, regs_of,
+    board_numbered, chr_banks_of, flags_of, high_of, mirroring_numbered, options_numbered,
+    output_numbered, prg_banks_of, regs_of,
 };
 use bits::cursor::Cursor;
 use bits::words::load;
@@ -122,8 +122,9 @@ fn read_sound(img: &[u8; IMAGE_BYTES], bits: u32, options: Options) -> Audio
     }
 }
 
-fn read_memory(img: &[u8; IMAGE_BYTES]) -> Memory
-    ensures { result ≡ memory_at img.now }
+// The memory, given the high bit of its count of PRG-RAM pages.
+fn read_memory(img: &[u8; IMAGE_BYTES], high: u8) -> Memory
+    ensures { result ≡ memory_at img.now high }
 {
     let mut prg_pages = [Page::UNMAPPED; 64];
     get_pages(img, PRG_PAGES_AT, &mut prg_pages);
@@ -132,7 +133,7 @@ fn read_memory(img: &[u8; IMAGE_BYTES]) -> Memory
     let w = load(img, LAYOUT_AT, 4, 0);
     let layout = Layout {
         prg_rom: (w / 0x0040_0000 % 1024) as usize,
-        prg_ram: (w / 0x8000 % 128) as usize,
+        prg_ram: 128 * (high as usize) + (w / 0x8000 % 128) as usize,
         battery_ext: (w / 0x4000 % 2) as usize,
         chr: (w / 32 % 512) as usize,
         chr_writable: w / 16 % 2 == 1,
@@ -146,14 +147,14 @@ fn read_memory(img: &[u8; IMAGE_BYTES]) -> Memory
     }
 }
 
-// The state of IMAGE_BYTES bytes, given the board's words, the bits of `out` and the options.
-fn read_fields(img: &[u8; IMAGE_BYTES], h: Head, bits: u32, options: Options) -> State
+// The state of IMAGE_BYTES bytes, given the board's words, the bits of `out`, the options and that bit.
+fn read_fields(img: &[u8; IMAGE_BYTES], h: Head, bits: u32, options: Options, high: u8) -> State
     requires { T (not (nan_bits binary32 bits)) }
-    ensures { result ≡ state_at img.now h bits options }
+    ensures { result ≡ state_at img.now h bits options high }
 {
     State {
         chip: chip_of(h, read_sound(img, bits, options)),
-        memory: read_memory(img),
+        memory: read_memory(img, high),
         f800_protects: options.f800_protects,
     }
 }
@@ -162,7 +163,7 @@ fn read_fields(img: &[u8; IMAGE_BYTES], h: Head, bits: u32, options: Options) ->
 fn read_body(img: &[u8; IMAGE_BYTES], byte: u8) -> Result<KnownState, Refusal>
     ensures { read_answer result ≡ read_body img.now byte }
 {
-    if byte % 32 != 0 {
+    if byte % 16 != 0 {
         return Err(Refusal::State);
     }
     let options = options_numbered(byte);
@@ -174,7 +175,7 @@ fn read_body(img: &[u8; IMAGE_BYTES], byte: u8) -> Result<KnownState, Refusal>
     if 4 < h.detection / 2 % 8 {
         return Err(Refusal::State);
     }
-    KnownState::new(read_fields(img, h, bits, options))
+    KnownState::new(read_fields(img, h, bits, options, high_of(byte)))
 }
 
 // Reads an image of either length.

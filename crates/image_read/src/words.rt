@@ -2,7 +2,8 @@
 ghost use Rattle.std.specs.Prelude.{◌≡◌, ◌++◌, map, ◌/◌, ◌%◌, ◌<◌, replicate};
 ghost use Rattle.bits.specs.Fields.{unpack};
 ghost use Rattle.image_write.specs.Image.{part, chip_widths};
-ghost use Rattle.image_read.specs.Reading.{is_set, options_from, options_of, output_from, regs_from, board_numbered, mirroring_numbered};
+ghost use Rattle.image_read.specs.Reading.{is_set, options_from, high_from, options_of, output_from, regs_from};
+ghost use Rattle.image_read.specs.Reading.{board_numbered, mirroring_numbered};
 
 use bits::words::store;
 use board_chip::namco163::{Board, Regs};
@@ -30,6 +31,13 @@ pub fn options_numbered(byte: u8) -> Options
         signed_levels: byte / 64 % 2 == 1,
         plain_sum: byte / 32 % 2 == 1,
     }
+}
+
+// H12: the high bit of the count of PRG-RAM pages.
+pub fn high_of(byte: u8) -> u8
+    ensures { result ≡ high_from (options_of byte) }
+{
+    byte / 16 % 2
 }
 
 // H11: the channel output of its 12 bits.

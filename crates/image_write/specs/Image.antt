@@ -1,5 +1,5 @@
 -- H1, H2: the image. The widths of its fields and a state's values for them, in H1's order, as lists of parts.
-use Rattle.std.specs.Prelude.{ℕ, ◌-◌, ◌/◌, cond, List, [], ◌∷◌, ◌++◌, map, eqb, ltb, Float, get_or, replicate}
+use Rattle.std.specs.Prelude.{ℕ, ◌+◌, ◌-◌, ◌*◌, ◌/◌, ◌%◌, cond, List, [], ◌∷◌, ◌++◌, map, eqb, ltb, Float, get_or, replicate}
 use Rattle.std.specs.Float.{binary32}
 use Rattle.std.specs.Float.Ieee.{to_bits}
 use Rattle.bits.specs.Fields.{pack, bit, times, each}
@@ -75,13 +75,24 @@ page_widths = 10 ∷ 1 ∷ []
 abbrev pub page_fields : Page → List ℕ
 page_fields p = offset_of p / 1024 ∷ bit (writable_of p) ∷ []
 
+-- H12: of a count of PRG-RAM pages the low seven bits, which stand among the bytes, and the high bit, which the byte of options has
+abbrev pub ram_low : ℕ → ℕ
+ram_low pages = pages % 128
+
+abbrev pub ram_high : ℕ → ℕ
+ram_high pages = pages / 128
+
+-- and the count of both
+abbrev pub ram_pages : ℕ → ℕ → ℕ
+ram_pages high low = 128 * high + low
+
 abbrev pub layout_widths : List ℕ
 layout_widths = 10 ∷ 7 ∷ 1 ∷ 9 ∷ 1 ∷ 3 ∷ 1 ∷ []
 
 abbrev pub layout_fields : Memory → List ℕ
 layout_fields m =
     m.layout.prg_rom
-    ∷ m.layout.prg_ram
+    ∷ ram_low m.layout.prg_ram
     ∷ m.layout.battery_ext
     ∷ m.layout.chr
     ∷ bit m.layout.chr_writable

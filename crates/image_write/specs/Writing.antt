@@ -4,7 +4,7 @@ use Rattle.board_state.specs.declared.State.{State}
 use Rattle.call_refusals.specs.Refusals.{Check, first_of, unless_kept, state_check}
 use Rattle.image_write.specs.Options.{image_at, option_set, room_for}
 
--- N1: the bytes do not hold an image in which an option is set, or none is
+-- N1: the bytes do not hold an image in which a bit of the options is set, or none is
 abbrev pub room_check : Bool → ℕ → Check
 room_check set len = record { number = 1; holds = not (room_for set len) }
 

@@ -1,18 +1,18 @@
 // Fields as words: several fields in one number, the first the most significant.
 ghost use Rattle.std.specs.Prelude.{◌≡◌, cond, [], ◌∷◌, map, ◌-◌, ◌%◌, ◌^◌, ◌<◌, ◌≤◌, ltb, get_or, replicate};
 ghost use Rattle.bits.specs.Fields.{bit, pack, times, each};
-ghost use Rattle.limits.specs.Limits.{update_most, channel_most, address_most, bank_most, level_most, out_most, minus_zero};
+ghost use Rattle.limits.specs.Limits.{update_most, channel_most, address_most, bank_most, level_most, out_most, minus_zero, prg_ram_pages};
 ghost use Rattle.memory.specs.Range.{GoodLayout};
 ghost use Rattle.memory.specs.Page.{offset_of};
 ghost use Rattle.image_write.specs.Image.{part, chip_widths, chip_fields, sound_widths, sound_fields};
 ghost use Rattle.image_write.specs.Image.{page_widths, page_fields, layout_widths, layout_fields};
 ghost use Rattle.sound.specs.Levels.{whole_part};
-ghost use Rattle.image_write.specs.Options.{option_widths, option_fields};
+ghost use Rattle.image_write.specs.Options.{option_widths, option_fields, needs_byte};
 ghost use Rattle.image_write.specs.Pages.{offset_limit};
 
 use board_chip::namco163::Namco163;
 use board_state::Options;
-use limits::{MINUS_ZERO, USED_MOST};
+use limits::{MINUS_ZERO, PRG_RAM_PAGES, USED_MOST};
 use memory::Memory;
 use memory::page::Page;
 use sound::audio::Audio;
@@ -78,7 +78,8 @@ pub fn port_word(audio: &Audio) -> u64
         + u64::from(audio.current_channel)
 }
 
-// The page counts, the CHR-RAM flag and whether the reserve is used in 32 bits. `GoodLayout` is asked as in memory/src/layout.rt.
+// The page counts, that of PRG-RAM without its high bit (H12), the CHR-RAM flag and whether the reserve is used in 32 bits. `GoodLayout` is
+// asked as in memory/src/layout.rt.
 pub fn layout_word(m: &Memory) -> u64
     requires { GoodLayout m.now.layout }
     ensures { (result ≡ pack layout_widths (layout_fields m.now)) × (result < 2 ^ 32) }
@@ -86,7 +87,7 @@ pub fn layout_word(m: &Memory) -> u64
     let l = m.layout;
     let ram = u64::from(l.chr_writable);
     let used = u64::from(m.battery_ext_len == USED_MOST);
-    let prg = ((l.prg_rom as u64) * 128 + (l.prg_ram as u64)) * 2 + (l.battery_ext as u64);
+    let prg = ((l.prg_rom as u64) * 128 + (l.prg_ram as u64) % 128) * 2 + (l.battery_ext as u64);
     ((prg * 512 + (l.chr as u64)) * 2 + ram) * 16 + (l.ciram as u64) * 2 + used
 }
 
@@ -99,11 +100,21 @@ pub fn level_word(bits: u32) -> u64
     if bits < MINUS_ZERO { part } else { 4096 - part }
 }
 
-// H9, H11: the options in a byte.
-pub fn options_byte(o: Options) -> u8
-    ensures { result ≡ pack option_widths (option_fields o) }
+// H9, H11, H12: the options, and the high bit of a count of PRG-RAM pages, in a byte.
+pub fn options_byte(o: Options, pages: usize) -> u8
+    requires { pages ≤ prg_ram_pages }
+    ensures { result ≡ pack option_widths (option_fields o pages) }
 {
-    u8::from(o.f800_protects) * 128 + u8::from(o.signed_levels) * 64 + u8::from(o.plain_sum) * 32
+    let signed = u8::from(o.signed_levels) * 64;
+    let plain = u8::from(o.plain_sum) * 32;
+    u8::from(o.f800_protects) * 128 + signed + plain + (pages / 128) as u8 * 16
+}
+
+// H10, H12: whether an image with these options and so many pages of PRG-RAM needs the byte.
+pub fn needs_byte(o: Options, pages: usize) -> bool
+    ensures { result ≡ needs_byte o pages }
+{
+    o.any() | (pages == PRG_RAM_PAGES)
 }
 
 // A page entry in 11 bits. That its offset is in range is asked here, of four entries below and of tables in pages.rt (`PagesFit`): a host

@@ -19,8 +19,8 @@ use crate::sections::{
     PHASES_AT, PORT_AT, PRG_PAGES_AT, RAM_AT,
 };
 use crate::words::{
-    banks_word, detection_word, flags_word, layout_word, level_word, options_byte, port_word,
-    regs_word,
+    banks_word, detection_word, flags_word, layout_word, level_word, needs_byte, options_byte,
+    port_word, regs_word,
 };
 use bits::cursor::Cursor;
 use bits::words::load;
@@ -122,11 +122,11 @@ pub fn put_image(img: &mut [u8], s: State)
 {
     put_state(&mut img[..IMAGE_BYTES], &s);
     if img.len() == OPTIONS_IMAGE_BYTES {
-        img[IMAGE_BYTES] = options_byte(s.options());
+        img[IMAGE_BYTES] = options_byte(s.options(), s.memory.layout.prg_ram);
     }
 }
 
-// Whether so many bytes hold an image, `set` being whether an option is set in it.
+// Whether so many bytes hold an image, `set` being whether a bit of its options is set.
 #[tactic(auto, unfolding(crate::specs::Options::room_for))]
 pub fn room_for(set: bool, len: usize) -> bool
     ensures { result ≡ room_for set len }
@@ -139,7 +139,7 @@ pub fn write_image(s: State, img: &mut [u8]) -> Result<(), Refusal>
     ensures refusal { refusal_of result ≡ write_refusal s (length img.old) }
     ensures image { img.new ≡ written_image s img.old }
 {
-    if !room_for(s.options().any(), img.len()) {
+    if !room_for(needs_byte(s.options(), s.memory.layout.prg_ram), img.len()) {
         return Err(Refusal::Image);
     }
     let known = KnownState::new(s)?;

@@ -66,7 +66,7 @@ abbrev pub prg_rom_limit : ℕ
 prg_rom_limit = 524288
 
 abbrev pub prg_ram_limit : ℕ
-prg_ram_limit = 65536
+prg_ram_limit = 131072
 
 abbrev pub battery_limit : ℕ
 battery_limit = 1024
@@ -102,7 +102,7 @@ used_most = 128
 
 -- R4: the longest arena in bytes; `arena-most` says that it is the zero page and each region at its limit
 abbrev pub arena_most : ℕ
-arena_most = 858112
+arena_most = 923648
 
 -- R8: how many entries the page tables have
 abbrev pub prg_entries : ℕ

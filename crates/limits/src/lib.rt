@@ -34,7 +34,7 @@ pub const BANK_MOST: u8 = 63;
 // The sizes of a load in bytes.
 pub const PRG_ROM_LIMIT: u64 = 524_288;
 
-pub const PRG_RAM_LIMIT: u64 = 65_536;
+pub const PRG_RAM_LIMIT: u64 = 131_072;
 
 pub const BATTERY_LIMIT: u64 = 1_024;
 
@@ -57,4 +57,4 @@ pub const CIRAM_PAGES: usize = (CIRAM_LIMIT / 1024) as usize;
 pub const USED_MOST: usize = 128;
 
 // The longest arena in bytes: the zero page and each region at its limit.
-pub const ARENA_MOST: usize = 858_112;
+pub const ARENA_MOST: usize = 923_648;

@@ -61,7 +61,7 @@ impl MemoryLayout {
 }
 
 // How many pages hold so many bytes.
-fn pages_for(bytes: u64) -> usize
+pub fn pages_for(bytes: u64) -> usize
     ensures { result ≡ pages_for bytes }
 {
     bytes.div_ceil(1024) as usize

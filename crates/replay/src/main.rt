@@ -11,7 +11,7 @@ mod input; // input.rt: lines of the input
 
 fn main(rt: HostRuntime) -> io::Result<()> {
     let alloc = rt.alloc();
-    // The largest arena: 838 pages (R4).
+    // The largest arena (R4).
     let arena = Vec::with_capacity(alloc, ARENA_MOST)?;
     // More than twice the longest answer, that of a run.
     let out = Out::with_room(alloc, 262_144)?;

@@ -44,7 +44,7 @@ fn ten_numbers(line: &[u8]) -> Option<[u64; 10]> {
     Some(n)
 }
 
-// The options of an image's byte by an eleventh number, if there is one; five bits of the byte mean nothing.
+// The options of an image's byte by an eleventh number, if there is one; its other five bits are no options, bit 4 neither (H12).
 fn parse_options(line: &[u8]) -> Option<Options> {
     let byte = if spaces(line) == 10 {
         0

@@ -14,6 +14,7 @@ use Rattle.cut.specs.Demand3.{observed, FirstRise}
 use Rattle.cut.specs.Machine.{machine}
 use Rattle.memory.specs.declared.Memory.{Memory}
 use Rattle.memory.specs.declared.layout.MemoryLayout.{MemoryLayout}
+use Rattle.memory.specs.Layout.{pages_for}
 use Rattle.memory.specs.Range.{MemoryTyped, Bytes}
 use Rattle.sound_wave.specs.Channel.{level_at}
 use Rattle.sound_clock.specs.Exact.{UpdateExact}
@@ -36,7 +37,9 @@ use Rattle.call_run.proofs.run.Laws.{refused-run}
 use Rattle.image_write.specs.Image.{image_bytes}
 use Rattle.image_write.specs.Options.{image_at, option_set, room_for}
 use Rattle.image_read.specs.Reading.{state_in, read_image}
+use Rattle.image_read.specs.Older.{older_most, read_older}
 use Rattle.image_read.proofs.RoundTrip.{read-written, written_read, lengthened}
+use Rattle.image_read.proofs.Older.{older-images as same-as-before, older-image-of-state as read-before}
 use Rattle.host_state.specs.HostState.{unaltered, run_own}
 use Rattle.host.specs.Host.{on_image, cpu_own, host_load_checks, host_load, host_reset, host_read, host_write, host_run}
 use Rattle.host.specs.Blocks.{host_lookup, load_blocks_checks, host_load_blocks, host_load_places, blocks_own, host_write_blocks, host_write_places}
@@ -103,6 +106,10 @@ pub demand-1-load : (img arena : List ℕ) (mapper sub flags known : ℕ) (sizes
     → let cs = host_load_checks img arena mapper sizes options in
     (first_of cs ≡ 0 → ⊥) → host_load img arena mapper sub flags known sizes options ≡ unaltered img arena (first_of cs)
 demand-1-load = Host.load-refused
+
+-- N22: a load's image needs the byte of options where PRG-RAM has so many bytes
+pub load-of-128-pages : (bytes : ℕ) → (pages_for bytes ≡ 128) ↔ ((130049 ≤ bytes) × (bytes ≤ 131072))
+load-of-128-pages = Host.full-ram
 
 pub demand-1-on-image : (img lent : List ℕ) (addr v kind n : ℕ) → let s = state_in img in
     ((first_of (on_image img (kind_check kind ∷ [])) ≡ 0 → ⊥)
@@ -345,3 +352,12 @@ state-of-image img b e = let z = written_read img b e in (z.roomy, z.same)
 -- H10: an image without options is read as the longer one with 0 behind it
 pub image-lengthened : (img : List ℕ) → length img ≡ image_bytes → read_image (img ++ (0 ∷ [])) ≡ read_image img
 image-lengthened = lengthened
+
+-- H12: an image that was accepted when seven bits were the whole count of PRG-RAM pages, and 64 the most, reads to the same state
+pub older-images : (img : List ℕ) → (read_older img).refusal ≡ 0 → read_image img ≡ read_older img
+older-images = same-as-before
+
+-- and the image of each state of so few pages was accepted
+pub older-image-of-state : (s : State) → Known s → s.memory.layout.prg_ram ≤ older_most → (n : ℕ) → room_for (option_set s) n ≡ true
+    → read_older (image_at n s) ≡ record { refusal = 0; state = s }
+older-image-of-state = read-before

@@ -36,6 +36,7 @@ use Rattle.board_chip.specs.Load.{chip_at_load}
 use Rattle.board_chip.specs.Namco163.{with_audio}
 use Rattle.board_registers.specs.Writes.{write_chip}
 use Rattle.board_protection.specs.Protection.{remap_banks, remaps_in}
+use Rattle.board_state.specs.declared.Options.{Options}
 use Rattle.board_state.specs.declared.State.{State}
 use Rattle.board_state.specs.State.{mapper_ok, Known, with_chip}
 use Rattle.board_state.proofs.Range.{mapper-in, known-passes}
@@ -250,7 +251,7 @@ unfolding ticks
 clocks-known zero s k = k
 clocks-known (suc n) s k = rw (state-more state_clock n s) (clock-known (clocks n s).state (clocks-known n s k))
 
-clocks-memory : (n : ℕ) (s : State) → (clocks n s).state.memory ≡ s.memory
+pub clocks-memory : (n : ℕ) (s : State) → (clocks n s).state.memory ≡ s.memory
 unfolding ticks state_clock
 clocks-memory zero s = refl
 clocks-memory (suc n) s = rw (state-more state_clock n s) (clocks-memory n s)
@@ -298,6 +299,17 @@ memory-load mapper sizes =
 pub layout-load : (mapper : ℕ) (sizes : MemoryLayout) → (memory_at_load mapper sizes).layout ≡ layout_of sizes
 unfolding memory_at_load new_memory set_mirroring unmapped_memory
 layout-load mapper sizes = refl
+
+-- R8: a CPU write and a load keep the page counts
+pub register-layout : (s : State) (addr v : ℕ) → (write_register s addr v).memory.layout ≡ s.memory.layout
+register-layout s addr v = (register-stays s addr v).kept.layout
+
+pub fresh-layout : (mapper sub flags : ℕ) (known : Bool) (sizes : MemoryLayout) (options : Options)
+    → (fresh_state mapper sub flags known sizes options).memory.layout ≡ layout_of sizes
+unfolding fresh_state
+fresh-layout mapper sub flags known sizes options =
+    (mapped options.f800_protects (chosen (chip_at_load mapper sub flags known) options) (memory_at_load mapper sizes)).kept.layout
+    ∙ layout-load mapper sizes
 
 pub zeroed-fits : (l : Loaded) → l.submapper < 2 ^ 8 → Fit (zeroed l)
 unfolding fresh_state

@@ -59,8 +59,14 @@ fn load(pair: &mut Pair, rng: &mut Rng) -> Compared<()> {
     let load = loads::accepted(rng);
     let load = loads::with_options(rng, load);
     let len = load.arena_len() as usize;
-    draw::lend_bytes(pair, rng, load.options());
     pair.lend_arena(&rng.bytes(len));
+    // N1: 128 pages of PRG-RAM need the longer image, without an option too.
+    let bare = load.with(Options::default());
+    if bare.is_long() && rng.once_in(2) {
+        pair.lend_image(&rng.bytes(LEN));
+        reached::call(pair, BlockCall::Load(bare))?;
+    }
+    draw::lend_bytes(pair, rng, load.is_long());
     let way = rng.below(7) as usize;
     let directory = if rng.once_in(2) { fit(rng) } else { unfit(rng, way) };
     pair.lend_directory(directory);
@@ -210,7 +216,7 @@ fn lend_wrong(pair: &mut Pair, rng: &mut Rng, session: &Session, call: BlockCall
         let len = rng.pick(&[0, LEN - 1, OPTIONS_LEN + 1, 1_000]);
         pair.lend_image(&rng.bytes(len));
     } else if rng.once_in(4) {
-        draw::lend_bytes(pair, rng, Options::default());
+        draw::lend_bytes(pair, rng, false);
     }
     let wanted = if let BlockCall::Load(load) = call { load.arena_len() as usize } else { session.arena().len() };
     let len = if rng.once_in(4) { rng.pick(&[0, wanted.saturating_sub(1), wanted + 1]) } else { wanted };

@@ -9,7 +9,6 @@ use oracle::{
     host::HostCall,
     image,
     layout::Load,
-    options::Options,
     rng::Rng,
     session::{F800, RUN_LIMIT, Session, samples_made},
 };
@@ -33,16 +32,16 @@ pub fn load(rng: &mut Rng, load: Load) -> HostCall {
     if load.options().any() || rng.once_in(2) { HostCall::LoadOptions(load) } else { HostCall::Load(load) }
 }
 
-/// An image of random bytes, of a length that can hold these options.
-pub fn lend_bytes(pair: &mut Pair, rng: &mut Rng, options: Options) {
-    let len = rng.pick(image::lengths(options));
+/// An image of random bytes, of a length that can hold what a load makes; a long one has 308.
+pub fn lend_bytes(pair: &mut Pair, rng: &mut Rng, long: bool) {
+    let len = rng.pick(image::lengths(long));
     let bytes = rng.bytes(len);
     pair.lend_image(&bytes);
 }
 
 /// Lends a state by an image of one of the lengths that can hold it.
 pub fn lend_state(pair: &mut Pair, rng: &mut Rng, session: Session) {
-    let len = rng.pick(image::lengths(session.options));
+    let len = rng.pick(image::lengths(session.is_long()));
     pair.lend_state(session, len);
 }
 

@@ -4,7 +4,7 @@
 use crate::counts::Counts;
 use oracle::{
     host::{BlockCall, Host, HostCall},
-    image::{LEN, OPTIONS_LEN},
+    image::{LEN, OPTIONS_LEN, PRG_RAM_HIGH},
     layout::{Load, PAGE},
     options::{F800_PROTECTS, Options},
     session::{F800, Session, entry},
@@ -84,7 +84,7 @@ pub fn count(counts: &mut Counts, before: &Before, call: HostCall, word: u64) {
         HostCall::Write(addr, _) if accepted => write(counts, before, addr, word),
         _ => (),
     }
-    let unused = before.image_len == OPTIONS_LEN && Options::of_byte(before.options).is_none();
+    let unused = before.image_len == OPTIONS_LEN && Options::of_byte(before.options & !PRG_RAM_HIGH).is_none();
     counts.reach_if(unused && word == 2, UNUSED_BIT);
     if accepted {
         counts.reach(CALLS[usize::from(before.image_len == OPTIONS_LEN) + usize::from(before.options & F800_PROTECTS != 0)]);

@@ -16,6 +16,7 @@ mod previews;
 mod sessions;
 mod states;
 mod unfit;
+mod work_ram;
 
 use oracle::{layout::Load, rng::Rng, session::Session};
 use pair::{Compared, Pair};
@@ -90,6 +91,7 @@ fn play(pair: &mut Pair, wanted: &Wanted) -> Compared<()> {
     let bases = wanted.calls.div_ceil(50_000);
     editions::want(&mut pair.counts);
     levels::want(&mut pair.counts);
+    work_ram::want(&mut pair.counts);
     sessions::play(pair, &mut rng, wanted.calls / 2)?;
     states::play(pair, &mut rng, wanted.calls / 5)?;
     unfit::flip_bits(pair, &mut rng, bases)?;

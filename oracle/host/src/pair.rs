@@ -1,7 +1,7 @@
 // SPDX-License-Identifier: MIT OR Apache-2.0
 //! The archive and the Rust, side by side: both are lent the same, get the same calls, and are compared after each.
 
-use crate::{archive, counts::Counts, editions, lent::Lent, levels, places::Places};
+use crate::{archive, counts::Counts, editions, lent::Lent, levels, places::Places, work_ram};
 use oracle::{
     directory::Directory,
     host::{BlockCall, Host, HostCall},
@@ -105,6 +105,7 @@ impl Pair {
         self.counts.call(call, expected);
         editions::count(&mut self.counts, &before, call, expected);
         levels::count(&mut self.counts, &self.host, call, expected);
+        work_ram::count(&mut self.counts, &image_before, &self.host, call, expected);
         let differences = self.differences(expected, came);
         if differences.is_empty() {
             return Ok(expected);
@@ -125,6 +126,7 @@ impl Pair {
         self.counts.call_blocks(call, expected);
         editions::count_blocks(&mut self.counts, image_len, call, expected);
         levels::count_blocks(&mut self.counts, call, expected);
+        work_ram::count_blocks(&mut self.counts, image_len, call, expected);
         let differences = self.differences(expected, came);
         if differences.is_empty() {
             return Ok(expected);

@@ -10,6 +10,7 @@ use oracle::{
     host::HostCall,
     image,
     layout::{Load, PAGE},
+    options::Options,
     rng::Rng,
     session::Session,
     text::Call,
@@ -103,18 +104,21 @@ fn load(pair: &mut Pair, rng: &mut Rng, named: Load) -> Compared<()> {
     if rng.once_in(32) {
         near_limit(rng, &mut load);
     }
+    if load.prg_ram > 65_536 && rng.once_in(2) {
+        into_307_bytes(pair, rng, load)?;
+    }
     let len = load.arena_len() as usize;
     let call = draw::load(rng, load);
     if Session::load(&load, len as u64).is_err() {
         return pair.call(call).map(|_| ());
     }
-    // N1: an option needs the longer image.
-    if load.options().any() && rng.once_in(4) {
+    // N1: an option needs the longer image, and so do 128 pages of PRG-RAM.
+    if load.is_long() && rng.once_in(4) {
         pair.lend_image(&rng.bytes(image::LEN));
         pair.call(call)?;
     }
-    if rng.once_in(2) || !image::holds(pair.host().image().len(), load.options()) {
-        draw::lend_bytes(pair, rng, load.options());
+    if rng.once_in(2) || !image::holds(pair.host().image().len(), load.is_long()) {
+        draw::lend_bytes(pair, rng, load.is_long());
     }
     if rng.once_in(8) {
         let other = rng.pick(&[len - 1, len + 1, len - PAGE as usize, len + PAGE as usize]);
@@ -127,6 +131,19 @@ fn load(pair: &mut Pair, rng: &mut Rng, named: Load) -> Compared<()> {
     pair.edit(|session| session.lend_arena(bytes.into()));
     pair.counts.reach(loaded(&load));
     pair.counts.reach_if(load.prg_ram == 0, BARE_LOADS);
+    Ok(())
+}
+
+/// N1, N5, H12: more than 64 pages of PRG-RAM, by a load without options into the shorter image. What was lent is lent again.
+fn into_307_bytes(pair: &mut Pair, rng: &mut Rng, load: Load) -> Compared<()> {
+    let (image, arena) = (pair.host().image().to_vec(), pair.host().arena().to_vec());
+    let load = load.with(Options::default());
+    pair.lend_image(&rng.bytes(image::LEN));
+    pair.lend_arena(&rng.bytes(load.arena_len() as usize));
+    let call = draw::load(rng, load);
+    pair.call(call)?;
+    pair.lend_image(&image);
+    pair.lend_arena(&arena);
     Ok(())
 }
 

@@ -11,7 +11,7 @@ use fields::{FIELDS, LEVEL_FIELDS, bad_field, set_bits};
 use oracle::{
     generate::loads,
     host::{Host, HostCall},
-    image::{self, LEN, LENGTHS, OPTIONS_LEN},
+    image::{self, LEN, LENGTHS, OPTIONS_LEN, PRG_RAM_HIGH},
     layout::{Load, PAGE},
     options::{CHOICES, F800_PROTECTS},
     rng::Rng,
@@ -45,7 +45,7 @@ struct Base {
 impl Base {
     /// By an image of one of the lengths that can hold it.
     fn of(rng: &mut Rng, session: &Session) -> Self {
-        Self { image: image::of_length(session, rng.pick(image::lengths(session.options))), arena: session.arena().into() }
+        Self { image: image::of_length(session, rng.pick(image::lengths(session.is_long()))), arena: session.arena().into() }
     }
 
     /// By turns a loaded board after some calls, and a state that no load reaches.
@@ -120,6 +120,7 @@ pub fn set_fields(pair: &mut Pair, rng: &mut Rng, bases: u64) -> Compared<()> {
         entries(pair, rng, &base)?;
         used_without_reserve(pair, rng, &base)?;
         options(pair, rng, &base)?;
+        work_ram(pair, rng, &base)?;
         levels(pair, rng, &base)?;
     }
     Ok(())
@@ -130,12 +131,29 @@ pub fn set_fields(pair: &mut Pair, rng: &mut Rng, bases: u64) -> Compared<()> {
 fn options(pair: &mut Pair, rng: &mut Rng, base: &Base) -> Compared<()> {
     let mut image = base.image.clone();
     image.resize(OPTIONS_LEN, 0);
-    for byte in [0x00, 0x20, 0x40, 0x60, 0x80, 0xA0, 0xC0, 0xE0, 0x10, 0x08, 0x04, 0x02, 0x01, 0x50, 0x81, 0xE1, 0x7F, 0xFF] {
+    for byte in [0x00, 0x20, 0x40, 0x60, 0x80, 0xA0, 0xC0, 0xE0, 0x10, 0xF0, 0x08, 0x04, 0x02, 0x01, 0x18, 0x81, 0xE1, 0x7F, 0xFF] {
         image[LEN] = byte;
         pair.counts.reach(FIELD_VALUES);
         each_call(pair, rng, base, &image)?;
     }
     each_call(pair, rng, base, &image[..LEN])
+}
+
+/// R9, H12: counts of PRG-RAM pages by the high bit and the seven others, at and beyond the greatest, with options and without.
+fn work_ram(pair: &mut Pair, rng: &mut Rng, base: &Base) -> Compared<()> {
+    let mut image = base.image.clone();
+    image.resize(OPTIONS_LEN, 0);
+    let options = image[LEN] & !PRG_RAM_HIGH;
+    for (high, low) in [(0, 0), (0, 63), (0, 64), (0, 65), (0, 127), (1, 0), (1, 1), (1, 8), (1, 64), (1, 127)] {
+        set_bits(&mut image, fields::PRG_RAM, fields::PRG_RAM_BITS, low);
+        for byte in [options, 0x00, 0xE0] {
+            image[LEN] = byte | if high == 1 { PRG_RAM_HIGH } else { 0 };
+            pair.counts.reach(FIELD_VALUES);
+            each_call(pair, rng, base, &image)?;
+        }
+        each_call(pair, rng, base, &image[..LEN])?;
+    }
+    Ok(())
 }
 
 /// R11: in each choice, with the other outputs and `out` of 0, an output and `out` at and beyond the ends of every choice.
@@ -147,7 +165,7 @@ fn levels(pair: &mut Pair, rng: &mut Rng, base: &Base) -> Compared<()> {
         set_bits(&mut silent, field.first + index * field.width, field.width, 0);
     }
     for (choice, field) in (0..CHOICES.len()).flat_map(|choice| LEVEL_FIELDS.iter().map(move |field| (choice, field))) {
-        silent[LEN] = rng.pick(&[0, F800_PROTECTS]) | (choice as u8) << 5;
+        silent[LEN] = silent[LEN] & PRG_RAM_HIGH | rng.pick(&[0, F800_PROTECTS]) | (choice as u8) << 5;
         for (index, value) in (0..field.count).flat_map(|index| field.values.iter().map(move |value| (index, *value))) {
             let mut image = silent.clone();
             set_bits(&mut image, field.first + index * field.width, field.width, value);

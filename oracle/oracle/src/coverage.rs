@@ -12,6 +12,7 @@ mod previews;
 mod protection;
 mod reads;
 mod runs;
+mod work_ram;
 
 use crate::{
     directory::Directory,
@@ -157,7 +158,7 @@ impl Counter<'_> {
 type Classes = fn() -> Vec<String>;
 type Observe = fn(&Played, &mut Counter);
 
-const AREAS: [(Classes, Observe); 9] = [
+const AREAS: [(Classes, Observe); 10] = [
     (loads::classes, loads::observe),
     (levels::classes, levels::observe),
     (banking::classes, banking::observe),
@@ -166,6 +167,7 @@ const AREAS: [(Classes, Observe); 9] = [
     (reads::classes, reads::observe),
     (runs::classes, runs::observe),
     (memory::classes, memory::observe),
+    (work_ram::classes, work_ram::observe),
     (blocks::classes, blocks::observe),
 ];
 

@@ -1,8 +1,7 @@
 // SPDX-License-Identifier: MIT OR Apache-2.0
 //! Random sessions in the replay program's language. A seed gives the same calls everywhere. With options, loads have each of their eight
 //! sets as often (L19, S13), images have both lengths, F800 is written more often, and there are sounds at the ends of levels. Without,
-//! nothing of that is drawn, and a seed gives the calls that it gave before there were options; the list that is recorded in the repository
-//! is such a one.
+//! nothing of that is drawn; the list that is recorded in the repository is such a one. In both some PRG-RAM has up to 128 pages (H12).
 
 mod actions;
 pub mod loads;
@@ -91,8 +90,8 @@ impl Generator {
 
     /// An `image` that is accepted.
     fn whole_image(&self) -> Call {
-        let option = self.player.session.as_ref().is_some_and(|session| session.options.any());
-        Call::Image(option.then_some(image::OPTIONS_LEN as u64))
+        let long = self.player.session.as_ref().is_some_and(Session::is_long);
+        Call::Image(long.then_some(image::OPTIONS_LEN as u64))
     }
 
     /// Half of a session goes to two actions, so that states get deep; the rest to all of them. Where options are drawn, one action in
@@ -152,6 +151,7 @@ impl Generator {
         self.say_load(accepted);
         if self.player.session.is_some() {
             actions::mark(self);
+            actions::far_pages(self);
         }
         // An Unknown soon becomes something else; it shall be seen before.
         if self.player.session.as_ref().is_some_and(|session| session.chip.board == Board::Unknown) {

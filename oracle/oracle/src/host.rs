@@ -1,5 +1,5 @@
 // SPDX-License-Identifier: MIT OR Apache-2.0
-//! The host's seven calls on an image, an arena and sample bytes, by the Rust: H4 to H10, and N20's rows of a C host; in `blocks` those
+//! The host's seven calls on an image, an arena and sample bytes, by the Rust: H4 to H12, and N20's rows of a C host; in `blocks` those
 //! with a directory.
 
 mod blocks;
@@ -43,7 +43,7 @@ pub struct Host {
 impl Host {
     /// Lends a state, in range, with its arena, by the shortest image that can hold it.
     pub fn new(session: Session) -> Self {
-        let len = image::lengths(session.options)[0];
+        let len = image::lengths(session.is_long())[0];
         Self::of_length(session, len)
     }
 
@@ -86,7 +86,7 @@ impl Host {
     /// can hold it.
     pub fn edit(&mut self, change: impl FnOnce(&mut Session)) {
         change(&mut self.session);
-        let lengths = image::lengths(self.session.options);
+        let lengths = image::lengths(self.session.is_long());
         let len = if lengths.contains(&self.image.len()) { self.image.len() } else { lengths[0] };
         self.image = image::of_length(&self.session, len);
         self.unread = None;
@@ -100,9 +100,13 @@ impl Host {
     fn accepted(&mut self, call: HostCall) -> Result<u64, Refusal> {
         self.refuse_length()?;
         let word = match call {
-            HostCall::Load(load) => self.load(&load.with(Options::default())),
+            HostCall::Load(load) => {
+                let load = load.with(Options::default());
+                self.refuse_long(&load)?;
+                self.load(&load)
+            }
             HostCall::LoadOptions(load) => {
-                self.refuse_option(&load)?;
+                self.refuse_long(&load)?;
                 self.load(&load)
             }
             HostCall::Read(addr) => self.state()?.read(addr).map(read_word),
@@ -126,9 +130,9 @@ impl Host {
         Refusal::ImageLength.when(!LENGTHS.contains(&self.image.len()))
     }
 
-    /// N1 of a load that asks for an option.
-    fn refuse_option(&self, load: &Load) -> Result<(), Refusal> {
-        Refusal::ImageLength.when(!image::holds(self.image.len(), load.options()))
+    /// N1 of a load that asks for an option or for 128 pages of PRG-RAM.
+    fn refuse_long(&self, load: &Load) -> Result<(), Refusal> {
+        Refusal::ImageLength.when(!image::holds(self.image.len(), load.is_long()))
     }
 
     fn state(&mut self) -> Result<&mut Session, Refusal> {

@@ -1,5 +1,5 @@
 // SPDX-License-Identifier: MIT OR Apache-2.0
-//! The image, by H1, H9 and H11: 307 bytes, or 308 with a byte of options.
+//! The image, by H1, H9, H11 and H12: 307 bytes, or 308 with a byte of options.
 
 use crate::{
     directory::Directory,
@@ -21,9 +21,14 @@ pub const LEN: usize = 307;
 pub const OPTIONS_LEN: usize = 308;
 pub const LENGTHS: [usize; 2] = [LEN, OPTIONS_LEN];
 
-/// N1: whether so many bytes can be an image with these options.
-pub fn holds(len: usize, options: Options) -> bool {
-    len == OPTIONS_LEN || (len == LEN && !options.any())
+/// H12: bit 4 of byte 307, which is the high bit of the count of PRG-RAM pages and no option.
+pub const PRG_RAM_HIGH: u8 = 0x10;
+/// H1, H12: bits of that count in the first 307 bytes.
+const PRG_RAM_BITS: usize = 7;
+
+/// N1: whether so many bytes can be the image of a state or of a load, which is long where it has an option or 128 pages of PRG-RAM.
+pub fn holds(len: usize, long: bool) -> bool {
+    len == OPTIONS_LEN || (len == LEN && !long)
 }
 
 /// Packs numbers of given widths, most significant bit first.
@@ -55,10 +60,11 @@ impl Packer {
 
 /// Writes the image of a state in range into bytes that can hold it.
 pub fn write(session: &Session, buffer: &mut [u8]) {
-    assert!(holds(buffer.len(), session.options), "{} bytes cannot hold this state", buffer.len());
+    assert!(holds(buffer.len(), session.is_long()), "{} bytes cannot hold this state", buffer.len());
     buffer[..LEN].copy_from_slice(&encode(session));
-    if let Some(options) = buffer.get_mut(LEN) {
-        *options = session.options.byte();
+    if let Some(last) = buffer.get_mut(LEN) {
+        let high = session.layout().prg_ram >> PRG_RAM_BITS == 1;
+        *last = session.options.byte() | if high { PRG_RAM_HIGH } else { 0 };
     }
 }
 
@@ -69,9 +75,9 @@ pub fn of_length(session: &Session, len: usize) -> Vec<u8> {
     bytes
 }
 
-/// The lengths that can hold a state with these options.
-pub fn lengths(options: Options) -> &'static [usize] {
-    if options.any() { &LENGTHS[1..] } else { &LENGTHS }
+/// The lengths that can hold a state or a load.
+pub fn lengths(long: bool) -> &'static [usize] {
+    if long { &LENGTHS[1..] } else { &LENGTHS }
 }
 
 /// The first 307 bytes of the image of a state in range.
@@ -140,7 +146,7 @@ fn put_memory(packer: &mut Packer, memory: &Memory) {
     }
     let layout = Layout::of(memory);
     packer.put(10, layout.prg_rom);
-    packer.put(7, layout.prg_ram);
+    packer.put(PRG_RAM_BITS as u32, layout.prg_ram % (1 << PRG_RAM_BITS));
     packer.put(1, layout.battery);
     packer.put(9, layout.chr);
     packer.flag(layout.chr_ram);
@@ -170,13 +176,14 @@ impl Unpacker<'_> {
     }
 }
 
-/// Image reading, refused by N1 and N2: the state of an image, with an arena of no bytes. H9: 307 bytes have no option.
+/// Image reading, refused by N1 and N2: the state of an image, with an arena of no bytes. H10: 307 bytes have no option, and no high bit.
 pub fn decode(bytes: &[u8]) -> Result<Session, Refusal> {
     Refusal::ImageLength.when(!LENGTHS.contains(&bytes.len()))?;
-    let options = Options::of_byte(bytes.get(LEN).copied().unwrap_or(0)).ok_or(Refusal::OutOfRange)?;
+    let last = bytes.get(LEN).copied().unwrap_or(0);
+    let options = Options::of_byte(last & !PRG_RAM_HIGH).ok_or(Refusal::OutOfRange)?;
     let mut unpacker = Unpacker { bytes, bit: 0 };
     let chip = take_chip(&mut unpacker, options)?;
-    let memory = take_memory(&mut unpacker);
+    let memory = take_memory(&mut unpacker, last & PRG_RAM_HIGH != 0);
     assert_eq!(unpacker.bit, LEN * 8);
     Refusal::OutOfRange.when(!in_range(&chip, &memory, options))?;
     Ok(Session { chip, memory, options, directory: Directory::default() })
@@ -224,7 +231,7 @@ fn output(field: i32, options: Options) -> i32 {
     if options.signed_levels && field >> (OUTPUT_BITS - 1) == 1 { field - (1 << OUTPUT_BITS) } else { field }
 }
 
-fn take_memory(unpacker: &mut Unpacker) -> Memory {
+fn take_memory(unpacker: &mut Unpacker, high: bool) -> Memory {
     let mut memory = Memory::new(MemoryLayout::default());
     *memory.raw_data_mut() = Box::default();
     let entries = unpacker.all::<80>(11).map(|entry| ((entry >> 1) * PAGE) | ((entry & 1) << 31));
@@ -237,7 +244,7 @@ fn take_memory(unpacker: &mut Unpacker) -> Memory {
     }
     let layout = Layout {
         prg_rom: unpacker.take(10),
-        prg_ram: unpacker.take(7),
+        prg_ram: u64::from(high) << PRG_RAM_BITS | unpacker.take(PRG_RAM_BITS),
         battery: unpacker.take(1),
         chr: unpacker.take(9),
         chr_ram: unpacker.flag(),

@@ -8,12 +8,14 @@ use tetanes::memory::{Memory, Src};
 pub const PAGE: u64 = 1024;
 
 pub const PRG_ROM_LIMIT: u64 = 524_288;
-pub const PRG_RAM_LIMIT: u64 = 65_536;
+pub const PRG_RAM_LIMIT: u64 = 131_072;
 pub const BATTERY_LIMIT: u64 = 1_024;
 pub const CHR_LIMIT: u64 = 262_144;
 pub const CIRAM_LIMIT: u64 = 4_096;
 /// What a CIRAM size of 0 means.
 const CIRAM_DEFAULT: u64 = 2_048;
+/// H12: as many pages of PRG-RAM, and no other number of them, need the high bit of their count, so the longer image.
+pub const LONG_PRG_RAM: u64 = 128;
 
 /// What a load names. Numbers are as wide as a host lends them, so that each is tested before any cast.
 #[derive(Debug, Default, Clone, Copy, PartialEq, Eq)]
@@ -43,6 +45,11 @@ impl Load {
     pub fn with(self, options: Options) -> Self {
         let Options { f800_protects, signed_levels, plain_sum } = options;
         Self { f800_protects: f800_protects.into(), signed_levels: signed_levels.into(), plain_sum: plain_sum.into(), ..self }
+    }
+
+    /// N1: whether its image needs a byte of options: for an option, or for its PRG-RAM.
+    pub fn is_long(&self) -> bool {
+        self.options().any() || self.prg_ram.div_ceil(PAGE) == LONG_PRG_RAM
     }
 
     /// Each size beside its limit.

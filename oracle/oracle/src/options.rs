@@ -1,7 +1,7 @@
 // SPDX-License-Identifier: MIT OR Apache-2.0
 //! What a load chooses beside the cartridge's own numbers (L19, S13). The state keeps it, and no call changes it.
 
-/// H9, H11: the bits of an image's byte 307.
+/// H9, H11: the bits of an image's byte 307. Its bit 4 is no option (H12).
 pub const F800_PROTECTS: u8 = 0x80;
 pub const SIGNED_LEVELS: u8 = 0x40;
 pub const PLAIN_SUM: u8 = 0x20;

@@ -57,7 +57,7 @@ fn level_in_range(level: f32, ends: &RangeInclusive<f32>) -> bool {
 }
 
 fn layout_in_range(layout: &Layout) -> bool {
-    layout.prg_rom <= 512 && layout.prg_ram <= 64 && layout.battery <= 1 && layout.chr <= 256 && (1..=4).contains(&layout.ciram)
+    layout.prg_rom <= 512 && layout.prg_ram <= 128 && layout.battery <= 1 && layout.chr <= 256 && (1..=4).contains(&layout.ciram)
 }
 
 fn used_in_range(used: usize, layout: &Layout) -> bool {

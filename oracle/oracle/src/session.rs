@@ -11,7 +11,7 @@
 use crate::{
     directory::{CPU_PAGES, Directory},
     image,
-    layout::{Layout, Load, PAGE, Region},
+    layout::{LONG_PRG_RAM, Layout, Load, PAGE, Region},
     levels,
     options::Options,
     range::in_range,
@@ -119,6 +119,11 @@ impl Session {
 
     pub fn layout(&self) -> Layout {
         Layout::of(&self.memory)
+    }
+
+    /// N1: whether its image needs a byte of options: for an option, or for its PRG-RAM.
+    pub fn is_long(&self) -> bool {
+        self.options.any() || self.layout().prg_ram == LONG_PRG_RAM
     }
 
     pub fn arena(&self) -> &[u8] {
@@ -269,7 +274,7 @@ impl Session {
     }
 
     pub fn image(&self, buffer: &mut [u8]) -> Result<(), Refusal> {
-        Refusal::ImageLength.when(!image::holds(buffer.len(), self.options))?;
+        Refusal::ImageLength.when(!image::holds(buffer.len(), self.is_long()))?;
         self.refuse_state()?;
         image::write(self, buffer);
         Ok(())

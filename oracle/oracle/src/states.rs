@@ -50,7 +50,7 @@ fn layout(rng: &mut Rng) -> Layout {
         layout.prg_rom = 512;
     }
     if rng.once_in(32) {
-        layout.prg_ram = 64;
+        layout.prg_ram = rng.pick(&[64, 65, 100, 127, 128, 128]);
     }
     if rng.once_in(64) {
         layout.chr = 256;

@@ -99,7 +99,8 @@ pub length-put : (s : State) (img new : List ℕ) → image_bytes ≤ length img
 length-put s img new h e =
     omega (arith, length-append new (drop image_bytes img), length-drop image_bytes img, ap length e ∙ length-image s)
 
-pub put-long : (s : State) (img : List ℕ) (v : ℕ) → length img ≡ options_image_bytes → v ≡ pack option_widths (option_fields (options_in s))
+pub put-long : (s : State) (img : List ℕ) (v : ℕ) → length img ≡ options_image_bytes
+    → v ≡ pack option_widths (option_fields (options_in s) s.memory.layout.prg_ram)
     → set (image_of s ++ drop image_bytes img) image_bytes v ≡ image_at (length img) s
 unfolding options_byte
 put-long s img v l e =

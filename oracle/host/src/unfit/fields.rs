@@ -23,7 +23,7 @@ pub const FIELDS: &[Field] = &[
     OUTPUTS,
     OUT,
     field(2424, 10, 1, &[0, 511, 512, 513, 1023]),
-    field(2434, 7, 1, &[0, 63, 64, 65, 127]),
+    field(PRG_RAM, PRG_RAM_BITS, 1, &[0, 63, 64, 65, 127]),
     field(2442, 9, 1, &[0, 255, 256, 257, 511]),
     field(2452, 3, 1, &[0, 1, 2, 3, 4, 5, 6, 7]),
 ];
@@ -82,6 +82,9 @@ const SIZES: usize = 27;
 
 pub const FIRST_ENTRY: usize = 1544;
 pub const ENTRIES: usize = 80;
+/// The seven low bits of the count of PRG-RAM pages (H12).
+pub const PRG_RAM: usize = 2434;
+pub const PRG_RAM_BITS: usize = 7;
 pub const RESERVE: usize = 2441;
 pub const USED: usize = 2455;
 

@@ -4,6 +4,7 @@
 use super::{Counter, Played, View};
 use crate::{
     image::{LEN, LENGTHS},
+    layout::LONG_PRG_RAM,
     options::{CHOICES, Options},
     range::Ends,
     text::Call,
@@ -82,9 +83,10 @@ fn loaded(after: &View, options: Options, counter: &mut Counter) {
     counter.never(after.options != options, "a load with other options than it was told");
 }
 
-/// Of the two lengths; one that cannot hold the options is refused.
+/// Of the two lengths; one that cannot hold the options is refused. Where it is PRG-RAM that needs the longer, H12's rows have it.
 fn image(played: &Played, after: &View, length: u64, counter: &mut Counter) {
-    if !LENGTHS.contains(&(length as usize)) {
+    let for_its_ram = !after.options.any() && after.layout.prg_ram == LONG_PRG_RAM;
+    if for_its_ram || !LENGTHS.contains(&(length as usize)) {
         return;
     }
     let refused = if played.accepted() { "" } else { " refused by 1" };

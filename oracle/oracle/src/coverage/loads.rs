@@ -11,7 +11,7 @@ use crate::{
 const STARTS: [&str; 5] = ["163", "detecting 163", "detecting Unknown", "175", "340"];
 const SUBMAPPERS: [u8; 5] = [0, 1, 2, 3, 255];
 const PRG_ROM_PAGES: [u64; 14] = [0, 1, 3, 7, 8, 9, 12, 15, 16, 17, 20, 23, 24, 512];
-const PRG_RAM_PAGES: [u64; 7] = [0, 1, 2, 3, 8, 9, 64];
+const PRG_RAM_PAGES: [u64; 10] = [0, 1, 2, 3, 8, 9, 64, 65, 127, 128];
 const CHR_PAGES: [u64; 5] = [0, 1, 3, 8, 256];
 const RESERVES: [u64; 5] = [0, 1, 127, 128, 1024];
 

@@ -4,7 +4,7 @@
 use super::{Counter, Played, View};
 use crate::{
     image::{LEN, OPTIONS_LEN},
-    layout::{PAGE, Region},
+    layout::{LONG_PRG_RAM, PAGE, Region},
     session::{F800, PART, PARTS, RAM_WINDOW, unprotected},
     text::{Call, IMAGE_LIMIT},
 };
@@ -12,7 +12,7 @@ use tetanes::m019_namco163::Board;
 
 const EDITIONS: [&str; 2] = ["old", "new"];
 const BOARDS: [&str; 5] = ["163", "detecting 163", "detecting Unknown", "175", "340"];
-const RAM_PAGES: [u64; 6] = [0, 1, 2, 3, 8, 64];
+const RAM_PAGES: [u64; 6] = [0, 1, 2, 3, 8, 128];
 const IMAGES: [u64; 6] = [0, 306, LEN as u64, OPTIONS_LEN as u64, 309, IMAGE_LIMIT];
 
 /// Of the new edition, where nothing else is said.
@@ -112,7 +112,7 @@ fn image(played: &Played, length: Option<u64>, counter: &mut Counter) {
         Some(length) => counter.hit_if(IMAGES.contains(&length), format!("image {length}, {edition} edition")),
     }
     let fits = match length.unwrap_or(LEN as u64) as usize {
-        LEN => !before.options.any(),
+        LEN => !before.options.any() && before.layout.prg_ram != LONG_PRG_RAM,
         length => length == OPTIONS_LEN,
     };
     counter.never(played.accepted() != fits, "an image of a length that does not hold it, or a refused one that would");

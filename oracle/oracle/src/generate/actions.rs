@@ -120,6 +120,23 @@ pub fn mark(g: &mut Generator) {
     }
 }
 
+/// H12: where PRG-RAM has more than 64 pages, its image at one of the lengths, and bytes beyond those pages.
+pub fn far_pages(g: &mut Generator) {
+    let len = g.region_len(Region::PrgRam);
+    if len <= 64 * PAGE {
+        return;
+    }
+    let length = g.rng.pick(&[None, Some(307), Some(308)]);
+    g.say(Call::Image(length));
+    let offset = g.rng.pick(&[64 * PAGE, len - 1]);
+    let val = g.rng.byte() | 1;
+    g.say(Call::RegionWrite(Region::PrgRam, offset, val));
+    g.say(Call::RegionPeek(Region::PrgRam, len + offset));
+    if g.rng.once_in(2) {
+        g.say(Call::Sram);
+    }
+}
+
 fn register_write(g: &mut Generator) {
     let addr = g.address(FIRST, 0xFFFF);
     let val = g.value();

@@ -23,7 +23,8 @@ pub fn with_options(rng: &mut Rng, load: Load) -> Load {
 pub fn accepted(rng: &mut Rng) -> Load {
     let sizes = match rng.below(16) {
         0..7 => usual(rng),
-        7..15 => odd(rng),
+        7..14 => odd(rng),
+        14 => Load { prg_ram: large_ram(rng), ..usual(rng) },
         _ => largest(rng),
     };
     let mut load = Load {
@@ -71,12 +72,18 @@ fn largest(rng: &mut Rng) -> Load {
         load.prg_rom = PRG_ROM_LIMIT;
     }
     if rng.once_in(2) {
-        load.prg_ram = PRG_RAM_LIMIT;
+        load.prg_ram = large_ram(rng);
     }
     if rng.once_in(2) {
         load.chr = CHR_LIMIT;
     }
     load
+}
+
+/// H12: PRG-RAM of 64 pages, of 65 to 127, which 307 bytes can hold, and of 128, which they cannot.
+fn large_ram(rng: &mut Rng) -> u64 {
+    let (some, all) = (rng.between(65_537, 130_048), rng.between(130_049, PRG_RAM_LIMIT));
+    rng.pick(&[65_536, 65_537, some, 130_048, 130_049, all, PRG_RAM_LIMIT, PRG_RAM_LIMIT])
 }
 
 /// Bytes that take some number of pages, at times with a last page that is not full.

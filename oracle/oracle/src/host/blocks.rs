@@ -37,7 +37,7 @@ impl Host {
 
     /// K7: the directory is not read, so that 256 places of any content will do.
     fn load_blocks(&mut self, load: &Load) -> Result<u64, Refusal> {
-        self.refuse_option(load)?;
+        self.refuse_long(load)?;
         Refusal::OutOfRange.when(self.directory.places.len() != PLACES)?;
         self.load(load)?;
         self.write_image();

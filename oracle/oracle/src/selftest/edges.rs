@@ -1,6 +1,6 @@
 // SPDX-License-Identifier: MIT OR Apache-2.0
 //! Results at the edges of the clauses of docs/SCOPE.md, on the Rust: a file for each letter, one for L11, one for L18, one for the new
-//! edition, one for signed levels and plain sums, and one for M5 without PRG-RAM.
+//! edition, one for signed levels and plain sums, one for M5 without PRG-RAM, and one for more than 64 pages of it.
 
 mod blocks;
 mod clock;
@@ -15,13 +15,15 @@ mod records;
 mod refusals;
 mod registers;
 mod sound;
+mod work_ram;
 
 use super::checks::Check;
 
-pub const SECTIONS: [(&str, Check); 13] = [
+pub const SECTIONS: [(&str, Check); 14] = [
     ("R: records", records::check),
     ("M: memory", memory::check),
     ("M5: carts without PRG-RAM", no_ram::check),
+    ("R1, H12: PRG-RAM of more than 64 pages", work_ram::check),
     ("L: load, detection and banking", load::check),
     ("L11: register writes", registers::check),
     ("L18: previews", preview::check),

@@ -79,13 +79,19 @@ pub fn recuts(t: &mut Checks) {
     blocks_cut(t);
 }
 
-/// Loads with an option and images of a said length: many or, where no option is drawn, none; and as many in another cut.
+/// Loads with an option: many or, where no option is drawn, none. Images of a said length, which 128 pages of PRG-RAM need too: many or
+/// some. As many of both in another cut.
 fn options_stay(t: &mut Checks, calls: &[u8], options: bool) {
     let spaces = |line: &[u8]| line.iter().filter(|byte| **byte == b' ').count();
-    let of_an_option = |line: &&[u8]| line.starts_with(b"image ") || (line.starts_with(b"load ") && spaces(line) == 11);
-    let count = |list: &[u8]| lines(list).filter(of_an_option).count();
-    t.holds("options", if options { count(calls) > 50 } else { count(calls) == 0 });
-    t.eq("options in another cut", count(&recut(calls, 0)), count(calls));
+    let with_option = |line: &&[u8]| line.starts_with(b"load ") && spaces(line) == 11;
+    let counts = |list: &[u8]| {
+        let images = lines(list).filter(|line| line.starts_with(b"image ")).count();
+        (lines(list).filter(with_option).count(), images)
+    };
+    let (loads, images) = counts(calls);
+    t.holds("options", if options { loads > 30 } else { loads == 0 });
+    t.holds("images of a said length", images > if options { 20 } else { 0 });
+    t.eq("options in another cut", counts(&recut(calls, 0)), (loads, images));
 }
 
 fn first_difference(left: &Trace, right: &Trace) -> Option<String> {

@@ -68,6 +68,7 @@ const NUMBERS: &[(&str, usize, usize, u64, Lending)] = &[
     ("CHR 15", 2413, 11, 49 << 1, |s| *s.memory.raw_chr_pages_mut()[15].raw_mut() = 49 * 1024),
     ("PRG-ROM", 2424, 10, 512, |s| lend_pages(s, |layout| layout.prg_rom = 512)),
     ("PRG-RAM", 2434, 7, 64, |s| lend_pages(s, |layout| layout.prg_ram = 64)),
+    ("PRG-RAM", 2434, 7, 127, |s| lend_pages(s, |layout| layout.prg_ram = 127)),
     ("reserve", 2441, 1, 1, |_| ()),
     ("CHR", 2442, 9, 256, |s| lend_pages(s, |layout| layout.chr = 256)),
     ("CHR-RAM", 2451, 1, 1, |s| lend_pages(s, |layout| layout.chr_ram = true)),
@@ -120,7 +121,7 @@ const RANGES: &[(&str, usize, usize, usize, Numbers, Numbers)] = &[
     ("`out`", 1320, 32, 1, &[0, 1, 0x456F_1000], &[0x456F_1001, 0x7F80_0000, 0x7FC0_0000, 0x8000_0000, 0xBF80_0000, 0xFFFF_FFFF]),
     ("entries", 1544, 11, 80, &[0, 1, 51 << 1, 51 << 1 | 1], &[52 << 1, 52 << 1 | 1, 1_023 << 1]),
     ("PRG-ROM", 2424, 10, 1, &[32, 512], &[513, 1_023]),
-    ("PRG-RAM", 2434, 7, 1, &[8, 64], &[65, 127]),
+    ("PRG-RAM", 2434, 7, 1, &[8, 64, 65, 127], &[]),
     ("CHR", 2442, 9, 1, &[8, 256], &[257, 511]),
     ("CIRAM", 2452, 3, 1, &[1, 2, 3, 4], &[0, 5, 6, 7]),
     ("used without reserve", 2441, 1, 1, &[1], &[0]),
@@ -163,7 +164,7 @@ fn round_trips(t: &mut Checks) {
         let mut session = states::any(&mut rng);
         t.holds("a random state is in range", in_range(&session.chip, &session.memory, session.options));
         session.lend_arena(Box::default());
-        for len in lengths(session.options) {
+        for len in lengths(session.is_long()) {
             let image = of_length(&session, *len);
             let read = decode(&image);
             t.holds("a random state is read back", read.as_ref().is_ok_and(|read| read.whole() == session.whole()));

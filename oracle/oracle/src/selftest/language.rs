@@ -18,7 +18,7 @@ pub fn check(t: &mut Checks) {
     session(t);
     free_words(t);
     t.eq("Adler-32", adler32(b"Wikipedia"), 0x11E6_0398);
-    t.eq("Adler-32 of 858,112 bytes FF", adler32(&[0xFF; 858_112]), adler32_plain(&[0xFF; 858_112]));
+    t.eq("Adler-32 of 923,648 bytes FF", adler32(&[0xFF; 923_648]), adler32_plain(&[0xFF; 923_648]));
 }
 
 /// Byte by byte, each sum reduced at once.
@@ -71,7 +71,7 @@ fn numbers(t: &mut Checks) {
     }
 }
 
-const MALFORMED: [&str; 65] = [
+const MALFORMED: [&str; 67] = [
     " ",
     "jump",
     "Read $8000",
@@ -128,6 +128,8 @@ const MALFORMED: [&str; 65] = [
     "load 19 0 0 1 0 0 128 0 0 0 1",
     "load 19 0 0 1 0 0 128 0 0 0 $E1",
     "load 19 0 0 1 0 0 128 0 0 0 $FF",
+    "load 19 0 0 1 0 0 128 0 0 0 $90",
+    "load 19 0 0 1 0 131072 128 0 0 0 $10",
     "load 19 0 0 1 0 0 128 0 0 0 $140",
     "load 19 0 0 1 0 0 128 0 0 0 $120",
     "load 19 0 0 1 0 0 128 0 0 0 $181",

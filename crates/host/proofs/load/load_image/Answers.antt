@@ -8,22 +8,21 @@ use Rattle.image_write.specs.Options.{image_at}
 use Rattle.thm_range.proofs.Refused.{load-refused}
 use Rattle.host_state.proofs.Laws.{called, word_of, image-of, lent_of}
 use Rattle.bits.specs.Fields.{bit}
-use Rattle.board_state.specs.State.{any_option}
-use Rattle.host.specs.Host.{load_gives, host_load_checks, host_load}
+use Rattle.host.specs.Host.{load_needs_byte, load_gives, host_load_checks, host_load}
 use mathlib.Core.Bool.{Bool}
 use Rattle.call_load.specs.Cartridge.{fresh_state}
-use Rattle.host.proofs.Laws.{yes-bit, asked, no_room, roomy, load-number, load-known, load_fresh, room-fresh}
+use Rattle.host.proofs.Laws.{yes-bit, no_room, roomy, load-number, load-known, load_fresh, room-fresh}
 use Rattle.host.proofs.load.load_image.Goals as goal
 
-pub returns-then-not-room_for : goal.returns-then-not-room_for
+pub returns-then-not-room_for_load : goal.returns-then-not-room_for_load
 unfolding host_load
-returns-then-not-room_for c =
+returns-then-not-room_for_load c =
     let a = c.args in
     let k = a.cartridge in
     let given = load_gives (length a.image.now) a.arena.now k.mapper k.submapper k.flags (bit k.known) k.sizes k.options in
-    let none = sym (asked k.options _ _ (length a.image.now) c.any.ensures c.room_for.ensures) ∙ c.if-not-room_for.true in
+    let none = sym c.room_for_load.ensures ∙ c.if-not-room_for_load.true in
     let own = load_checks k.mapper k.sizes (length a.arena.now) in
-    let e = no_room (any_option k.options) a.image.now own a.arena.now given none in
+    let e = no_room (load_needs_byte k.sizes k.options) a.image.now own a.arena.now given none in
     record { value = word_of e; image_after = image-of e; arena_after = lent_of e }
 
 -- here and below `number` is that of the load, and by `room-here` the bytes hold the image
@@ -35,8 +34,8 @@ returns-in_err-fresh c =
     let load = c.in_err-fresh.ensures in
     let given = load_gives (length a.image.now) a.arena.now k.mapper k.submapper k.flags (bit k.known) k.sizes k.options in
     let number = load-number k.mapper k.submapper k.flags k.known k.sizes k.options a.arena.now _ load.0 in
-    let room-here = sym (asked k.options _ _ (length a.image.now) c.any.ensures c.room_for.ensures) ∙ c.if-not-room_for.false in
-    let passes = roomy (any_option k.options) a.image.now (load_checks k.mapper k.sizes (length a.arena.now)) room-here in
+    let room-here = sym c.room_for_load.ensures ∙ c.if-not-room_for_load.false in
+    let passes = roomy (load_needs_byte k.sizes k.options) a.image.now (load_checks k.mapper k.sizes (length a.arena.now)) room-here in
     let checks = host_load_checks a.image.now a.arena.now k.mapper k.sizes k.options in
     let call = called checks a.image.now a.arena.now given given _ (number ∙ passes) refl in
     let e = call.refused (numbered _) in
@@ -49,7 +48,7 @@ put_image-requires c =
     let a = c.args in
     let k = a.cartridge in
     let load = c.in_ok-fresh.ensures.0 in
-    let room-here = sym (asked k.options _ _ (length a.image.now) c.any.ensures c.room_for.ensures) ∙ c.if-not-room_for.false in (
+    let room-here = sym c.room_for_load.ensures ∙ c.if-not-room_for_load.false in (
       room-fresh k.mapper k.submapper k.flags k.known k.sizes k.options a.arena.now _ load refl (length a.image.now) room-here,
       load-known k.mapper k.submapper k.flags k.known k.sizes k.options a.arena.now _ load (search rules) refl,
     )
@@ -62,8 +61,8 @@ returns c =
     let load = c.in_ok-fresh.ensures in
     let given = load_gives (length a.image.now) a.arena.now k.mapper k.submapper k.flags (bit k.known) k.sizes k.options in
     let number = load-number k.mapper k.submapper k.flags k.known k.sizes k.options a.arena.now _ load.0 in
-    let room-here = sym (asked k.options _ _ (length a.image.now) c.any.ensures c.room_for.ensures) ∙ c.if-not-room_for.false in
-    let passes = roomy (any_option k.options) a.image.now (load_checks k.mapper k.sizes (length a.arena.now)) room-here in
+    let room-here = sym c.room_for_load.ensures ∙ c.if-not-room_for_load.false in
+    let passes = roomy (load_needs_byte k.sizes k.options) a.image.now (load_checks k.mapper k.sizes (length a.arena.now)) room-here in
     let checks = host_load_checks a.image.now a.arena.now k.mapper k.sizes k.options in
     let call = called checks a.image.now a.arena.now given given _ (number ∙ passes) refl in
     let e = call.accepted refl in

@@ -9,7 +9,7 @@ use Rattle.board_state.specs.State.{in_range}
 use Rattle.call_refusals.specs.declared.known.KnownState.{KnownState}
 use Rattle.call_refusals.proofs.Laws.{known-range}
 use Rattle.board_state.specs.declared.Options.{Options}
-use Rattle.image_read.specs.Reading.{ReadImage, options_from, options_of, refused_read, read_answer}
+use Rattle.image_read.specs.Reading.{ReadImage, options_from, high_from, options_of, refused_read, read_answer}
 use mathlib.Core.List.{List}
 use Prim.Native.Nat.{ℕ, ◌+◌, ◌-◌, ◌%◌, ◌^◌, ◌<◌}
 use native.Mathlib.Omega.{arith}
@@ -28,24 +28,24 @@ pub returns-then-byte-ne0 : goal.returns-then-byte-ne0
 returns-then-byte-ne0 c = sym (refused-unused _ _ c.if-byte-ne0.true)
 
 -- what is known of the bytes once the board was read
-opened : (img : List ℕ) (byte : ℕ) (h : Head) (word bits : ℕ) (chosen : Options) → length img ≡ image_bytes → Bytes img → byte % 32 ≡ 0
+opened : (img : List ℕ) (byte : ℕ) (h : Head) (word bits : ℕ) (chosen : Options) → length img ≡ image_bytes → Bytes img → byte % 16 ≡ 0
     → fields_at (joined chip_widths) img chip_at (ram_at - chip_at) ≡ joined (head_parts h)
     → word ≡ 0 + word_of (take 4 (drop out_at img)) → word < 2 ^ 32 → bits ≡ word → chosen ≡ options_from (options_of byte)
-    → Opened img byte h bits chosen
+    → Opened img byte h bits chosen (high_from (options_of byte))
 opened img byte h word bits chosen l f u e w s b o =
-    record { long = l; bytes = f; unused = u; head = e; out = omega (arith, w, b); small = omega (arith, s, b); options = o }
+    record { long = l; bytes = f; unused = u; head = e; out = omega (arith, w, b); small = omega (arith, s, b); options = o; ram = refl }
 
 pub returns-then-not-bits_ok : goal.returns-then-not-bits_ok
 returns-then-not-bits_ok c =
     let o = opened _ _ c.read_head-h.result _ _ _ c.told-img c.fits-img c.if-byte-ne0.false c.read_head-h.ensures
     c.load-bits.ensures.value c.load-bits.ensures.upper_bound (omega arith) c.options_numbered-options.ensures in
-    sym (refused-out _ _ _ _ _ o (sym c.bits_ok.ensures ∙ c.if-not-bits_ok.true))
+    sym (refused-out _ _ _ _ _ _ o (sym c.bits_ok.ensures ∙ c.if-not-bits_ok.true))
 
 pub returns-then-h-gt4 : goal.returns-then-h-gt4
 returns-then-h-gt4 c =
     let o = opened _ _ c.read_head-h.result c.load-bits.result _ _ c.told-img c.fits-img c.if-byte-ne0.false c.read_head-h.ensures
     c.load-bits.ensures.value c.load-bits.ensures.upper_bound refl c.options_numbered-options.ensures in
-    sym (refused-mirroring _ _ _ _ _ o c.if-h-gt4.true)
+    sym (refused-mirroring _ _ _ _ _ _ o c.if-h-gt4.true)
 
 pub read_fields-requires : goal.read_fields-requires
 read_fields-requires c = from-bits-ok _ _ _ (sym c.bits_ok.ensures ∙ c.if-not-bits_ok.false)
@@ -62,6 +62,6 @@ returns c =
     let o = opened _ _ c.read_head-h.result _ _ _ c.told-img c.fits-img c.if-byte-ne0.false c.read_head-h.ensures
     c.load-bits.ensures.value c.load-bits.ensures.upper_bound (omega arith) c.options_numbered-options.ensures in
     told c.new.result c.read_fields.result _ c.new.ensures
-    (λ i. let ok = rw c.read_fields.ensures at i in
-    rw c.read_fields.ensures (sym (accepted-state _ _ _ _ _ o c.if-h-gt4.false ok)))
-    (λ i. sym (refused-range _ _ _ _ _ o (rw c.read_fields.ensures at i)))
+    (λ i. let ok = rw (c.read_fields.ensures, c.high_of.ensures) at i in
+    rw (c.read_fields.ensures, c.high_of.ensures) (sym (accepted-state _ _ _ _ _ _ o c.if-h-gt4.false ok)))
+    (λ i. sym (refused-range _ _ _ _ _ _ o (rw (c.read_fields.ensures, c.high_of.ensures) at i)))

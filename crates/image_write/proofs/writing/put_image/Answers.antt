@@ -24,6 +24,10 @@ put_state-requires c = (
   c.requires.1,
 )
 
+-- a count in range has at most one bit more than seven
+pub options_byte-requires : goal.options_byte-requires
+options_byte-requires c = c.requires.1.range.memory.ranged.sized.layout.prg_ram
+
 -- the image over the first bytes leaves as many
 as_long : (s : State) (img new : List ℕ) (k : ℕ) → room_for (option_set s) (length img) ≡ true → new ≡ image_of s
     → length (new ++ drop image_bytes img) ≡ k → length img ≡ k
@@ -35,7 +39,7 @@ returns-then-img-eq-OPTIONS_IMAGE_BYTES c =
     ap (λ (l : List ℕ). set (l ++ drop image_bytes c.args.img.now) image_bytes c.options_byte.result) c.put_state.ensures
     ∙ put-long c.args.s c.args.img.now c.options_byte.result
     (as_long c.args.s c.args.img.now _ _ c.requires.0 c.put_state.ensures c.if-img-eq-OPTIONS_IMAGE_BYTES.true)
-    (c.options_byte.ensures ∙ ap (λ (o : Options). pack option_widths (option_fields o)) c.options.ensures)
+    (c.options_byte.ensures ∙ ap (λ (o : Options). pack option_widths (option_fields o c.args.s.memory.layout.prg_ram)) c.options.ensures)
 
 pub returns-else-img-eq-OPTIONS_IMAGE_BYTES : goal.returns-else-img-eq-OPTIONS_IMAGE_BYTES
 returns-else-img-eq-OPTIONS_IMAGE_BYTES c =

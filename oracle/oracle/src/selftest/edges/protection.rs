@@ -328,7 +328,7 @@ fn host_calls(t: &mut Checks) {
         host.lend_image(&long);
         t.eq("309 bytes", [host.call(HostCall::Reset(2)), host.call_blocks(BlockCall::Write(0, 0))], [1, 1]);
         long.truncate(308);
-        long[307] |= 0x10;
+        long[307] |= 0x08;
         host.lend_image(&long);
         t.eq("an unused bit", [host.call(HostCall::Reset(2)), host.call_blocks(BlockCall::Stored(0))], [2, 2]);
     }

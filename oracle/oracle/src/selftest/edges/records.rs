@@ -27,7 +27,7 @@ fn limits_on_bytes(t: &mut Checks) {
     for (size, answer) in [(524_288, 0), (524_289, 5)] {
         t.eq("PRG-ROM", refusal(try_load(Load { prg_rom: size, ..P })), answer);
     }
-    for (size, answer) in [(65_536, 0), (65_537, 5)] {
+    for (size, answer) in [(65_536, 0), (65_537, 0), (131_072, 0), (131_073, 5)] {
         t.eq("PRG-RAM", refusal(try_load(Load { prg_ram: size, ..P })), answer);
     }
     for (size, answer) in [(1_024, 0), (1_025, 5)] {
@@ -82,10 +82,10 @@ fn arena_order(t: &mut Checks) {
     t.eq("P's length", p.memory.len(), 53_248);
     let ram = loaded(Load { chr_ram: 1, ..P });
     t.eq("P with CHR-RAM", ranges(&ram), [1..33, 42..50, 33..41, 41..42, 50..52]);
-    let largest = Load { prg_rom: 524_288, prg_ram: 65_536, battery: 1_024, chr: 262_144, ciram: 4_096, ..P };
+    let largest = Load { prg_rom: 524_288, prg_ram: 131_072, battery: 1_024, chr: 262_144, ciram: 4_096, ..P };
     for chr_ram in [0, 1] {
         let session = loaded(Load { chr_ram, ..largest });
-        t.eq("largest", (session.layout().total_pages(), session.memory.len()), (838, 858_112));
+        t.eq("largest", (session.layout().total_pages(), session.memory.len()), (902, 923_648));
     }
     for load in [P, U, N175, Load { chr_ram: 1, ..P }, Load { chr: 0, prg_ram: 0, ..U }, largest] {
         let session = loaded(load);
@@ -153,8 +153,8 @@ const FIELDS: &[(&str, bool, Lending)] = &[
     ("phase 1000000", false, |s| s.chip.audio.raw_phase_ext_mut()[7] = 0x100_0000),
     ("PRG-ROM 512", true, |s| set_layout(s, |l| l.prg_rom = 512)),
     ("PRG-ROM 513", false, |s| set_layout(s, |l| l.prg_rom = 513)),
-    ("PRG-RAM 64", true, |s| set_layout(s, |l| l.prg_ram = 64)),
-    ("PRG-RAM 65", false, |s| set_layout(s, |l| l.prg_ram = 65)),
+    ("PRG-RAM 128", true, |s| set_layout(s, |l| l.prg_ram = 128)),
+    ("PRG-RAM 129", false, |s| set_layout(s, |l| l.prg_ram = 129)),
     ("reserve 2", false, |s| set_layout(s, |l| l.battery = 2)),
     ("CHR 256", true, |s| set_layout(s, |l| l.chr = 256)),
     ("CHR 257", false, |s| set_layout(s, |l| l.chr = 257)),
