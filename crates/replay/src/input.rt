@@ -1,22 +1,22 @@
 // Lines of the input: bytes are collected until a line ends, and then it is answered.
-use replay_player::player::Player;
+use replay_player::player::Session;
 use replay_text::out::Out;
 use std::io;
 use std::io::Read;
 
 #[derive(Drop)]
-pub struct Lines {
-    player: Player,
+pub struct Lines<'a> {
+    session: Session<'a>,
     // What is collected of a line.
-    line: Out,
+    line: Out<'a>,
     // Room for the bytes that a line names.
-    bytes: Vec<u8>,
+    bytes: &'a mut [u8],
 }
 
-impl Lines {
-    pub fn new(player: Player, line: Out, bytes: Vec<u8>) -> Lines {
+impl<'a> Lines<'a> {
+    pub fn new(session: Session<'a>, line: Out<'a>, bytes: &'a mut [u8]) -> Lines<'a> {
         Lines {
-            player,
+            session,
             line,
             bytes,
         }
@@ -24,16 +24,16 @@ impl Lines {
 
     // Writes the answers that are ready.
     fn flush<P: Print>(&mut self, rt: &P) -> io::Result<()> {
-        rt.write_all(self.player.out.as_slice())?;
-        self.player.out.clear();
+        rt.write_all(self.session.out.as_slice())?;
+        self.session.out.clear();
         Ok(())
     }
 
     // Answers the collected line. The buffer has room for the longest answer, that of a run.
     fn end_line<P: Print>(&mut self, rt: &P) -> io::Result<()> {
-        self.player.answer(&self.line, &mut self.bytes);
+        self.session.answer(&self.line, self.bytes);
         self.line.clear();
-        if self.player.out.len() < 131_072 {
+        if self.session.out.len() < 131_072 {
             return Ok(());
         }
         self.flush(rt)

@@ -20,9 +20,10 @@ pub fn spaced(out: &mut Out, n: u64) {
     out.put_decimal(n);
 }
 
-pub fn spaced_hex(out: &mut Out, bytes: &[u8]) {
-    out.put_all(b" $");
-    out.put_hex(bytes);
+pub fn spaced_hex32(out: &mut Out, n: u32) {
+    out.put(b' ');
+    out.put(b'$');
+    out.put_hex32(n);
 }
 
 // Where a call is accepted `ok`, and what `accepted` puts of what it gave; else the refusal's number.
@@ -51,7 +52,10 @@ pub fn ok(out: &mut Out, given: Result<(), Refusal>) {
 }
 
 pub fn byte(out: &mut Out, given: Result<u8, Refusal>) {
-    answer(out, given, |out, value| spaced_hex(out, &[value]));
+    answer(out, given, |out, value| {
+        out.put_all(b" $");
+        out.put_hex8(value);
+    });
 }
 
 // Two numbers: what `sram` answers (M13).
@@ -62,17 +66,20 @@ pub fn pair(out: &mut Out, given: Result<(u64, u64), Refusal>) {
     });
 }
 
-// L15: how many entries of a page table changed, and the lowest of them, behind the mask of all.
-fn changes(out: &mut Out, mask: &[u8], count: u32, lowest: u32) {
-    spaced_hex(out, mask);
+// L15: how many entries of a page table changed, and the lowest of them.
+fn counts(out: &mut Out, count: u32, lowest: u32) {
     spaced(out, u64::from(count));
     spaced(out, u64::from(lowest));
 }
 
 pub fn written(out: &mut Out, given: Result<Changed, Refusal>) {
     answer(out, given, |out, Changed { prg, chr }| {
-        changes(out, &prg.mask.to_be_bytes(), prg.count, prg.lowest);
-        changes(out, &chr.mask.to_be_bytes(), chr.count, chr.lowest);
+        out.put_all(b" $");
+        out.put_hex64(prg.mask);
+        counts(out, prg.count, prg.lowest);
+        out.put_all(b" $");
+        out.put_hex16(chr.mask);
+        counts(out, chr.count, chr.lowest);
     });
 }
 
@@ -88,7 +95,7 @@ pub fn ran(out: &mut Out, given: Result<(u32, usize), Refusal>, samples: &[f32])
         spaced(out, u64::from(rise));
         // So many of all: that a slice of them is there would have to be shown where the run was called.
         for &x in samples.iter().take(made) {
-            spaced_hex(out, &bits(x).to_be_bytes());
+            spaced_hex32(out, bits(x));
         }
     });
 }
@@ -97,7 +104,7 @@ pub fn ran(out: &mut Out, given: Result<(u32, usize), Refusal>, samples: &[f32])
 pub fn arena(out: &mut Out, bytes: &[u8]) {
     out.put_all(b"ok");
     spaced(out, bytes.len() as u64);
-    spaced_hex(out, &adler32(bytes).to_be_bytes());
+    spaced_hex32(out, adler32(bytes));
     end_line(out);
 }
 

@@ -1,5 +1,5 @@
 // The blocks of a directory.
-use crate::answers::{answer, end_line, spaced, spaced_hex};
+use crate::answers::{answer, end_line, spaced, spaced_hex32};
 use directory::block::Block;
 use refusals::Refusal;
 use replay_text::out::Out;
@@ -7,7 +7,7 @@ use replay_text::out::Out;
 // A block's length and number.
 fn extent(out: &mut Out, block: Block) {
     spaced(out, u64::from(block.len));
-    spaced_hex(out, &block.number.to_be_bytes());
+    spaced_hex32(out, block.number);
 }
 
 // What a lookup found.
@@ -25,7 +25,8 @@ pub fn directory(out: &mut Out, places: &[u64]) {
     spaced(out, held as u64);
     for &place in places.iter().filter(|&&place| place != 0) {
         let block = Block::from(place);
-        spaced_hex(out, &block.start.to_be_bytes());
+        out.put_all(b" $");
+        out.put_hex16(block.start);
         extent(out, block);
     }
     end_line(out);

@@ -1,5 +1,5 @@
 // Each call on the cartridge and its directory, and its answer.
-use crate::player::Player;
+use crate::player::Session;
 use board_chip::reset::ResetKind;
 use board_state::State;
 use call_blocks::writes as blocks;
@@ -21,45 +21,50 @@ fn arena_len(sizes: MemoryLayout) -> usize {
     }
 }
 
+// The loaded cartridge's arena: so many of the lent bytes.
+fn loaded(arena: &mut [u8], len: usize) -> &mut [u8] {
+    let within = len.min(arena.len());
+    &mut arena[..within]
+}
+
 // The calls that may change the state.
-impl Player {
+impl Session<'_> {
     // The state after a call; a refused one leaves it.
     fn keep(&mut self, after: Result<State, Refusal>) {
         if let Ok(state) = after {
-            self.state = Some(state);
+            self.player.state = Some(state);
         }
     }
 
-    // A refused load leaves the old cartridge, whose bytes lie in the same arena.
+    // A refused load leaves the old cartridge, whose bytes lie in the same array.
     pub(crate) fn load(&mut self, cartridge: Cartridge) {
-        let old = self.arena.len();
-        let new = arena_len(cartridge.sizes);
-        // There is room for each arena: with none the load would be refused.
-        let _ = self.arena.resize(old.max(new), 0);
-        let lent = new.min(self.arena.len());
-        let loaded = call_blocks::calls::load(
-            &mut self.directory,
+        let lent = arena_len(cartridge.sizes).min(self.arena.len());
+        let given = call_blocks::calls::load(
+            &mut self.player.directory,
             &mut self.arena[..lent],
             cartridge,
         );
-        match loaded {
-            Ok(fresh) => {
-                self.state = Some(fresh);
-                self.arena.truncate(new);
-            }
-            Err(_) => self.arena.truncate(old),
+        if let Ok(fresh) = given {
+            self.player.state = Some(fresh);
+            self.player.arena_len = lent;
         }
-        answers::ok(&mut self.out, loaded.map(|_| ()));
+        answers::ok(&mut self.out, given.map(|_| ()));
     }
 
     pub(crate) fn read(&mut self, s: State, addr: u16) {
-        let read = board::cpu_read(s, &self.arena, addr);
+        let read = board::cpu_read(s, loaded(self.arena, self.player.arena_len), addr);
         self.keep(read.map(|r| r.state));
         answers::byte(&mut self.out, read.map(|r| r.byte));
     }
 
     pub(crate) fn write(&mut self, s: State, addr: u16, val: u8) {
-        let written = blocks::cpu_write(&mut self.directory, s, &mut self.arena, addr, val);
+        let written = blocks::cpu_write(
+            &mut self.player.directory,
+            s,
+            loaded(self.arena, self.player.arena_len),
+            addr,
+            val,
+        );
         self.keep(written.map(|w| w.state));
         answers::written(&mut self.out, written.map(|w| w.changed));
     }
@@ -80,47 +85,76 @@ impl Player {
     }
 
     pub(crate) fn restore_battery(&mut self, s: State) {
-        let after = call_battery::restore_battery(s, &self.arena);
+        let after = call_battery::restore_battery(s, loaded(self.arena, self.player.arena_len));
         self.keep(after);
         answers::ok(&mut self.out, after.map(|_| ()));
     }
 }
 
 // The calls that leave the state as it is.
-impl Player {
+impl Session<'_> {
     pub(crate) fn peek(&mut self, s: State, addr: u16) {
-        answers::byte(&mut self.out, board::cpu_peek(s, &self.arena, addr));
+        answers::byte(
+            &mut self.out,
+            board::cpu_peek(s, loaded(self.arena, self.player.arena_len), addr),
+        );
     }
 
     pub(crate) fn preview(&mut self, s: State, addr: u16, val: u8) {
-        let changed = blocks::preview(&self.directory, s, &self.arena, addr, val);
+        let changed = blocks::preview(
+            &self.player.directory,
+            s,
+            loaded(self.arena, self.player.arena_len),
+            addr,
+            val,
+        );
         answers::written(&mut self.out, changed);
     }
 
     pub(crate) fn chr_read(&mut self, s: State, addr: u16) {
-        answers::byte(&mut self.out, call_regions::chr_read(s, &self.arena, addr));
+        answers::byte(
+            &mut self.out,
+            call_regions::chr_read(s, loaded(self.arena, self.player.arena_len), addr),
+        );
     }
 
     pub(crate) fn chr_write(&mut self, s: State, addr: u16, val: u8) {
-        let answer = blocks::chr_write(&mut self.directory, s, &mut self.arena, addr, val);
+        let answer = blocks::chr_write(
+            &mut self.player.directory,
+            s,
+            loaded(self.arena, self.player.arena_len),
+            addr,
+            val,
+        );
         answers::ok(&mut self.out, answer);
     }
 
     pub(crate) fn fill(&mut self, s: State, src: Src, bytes: &[u8]) {
-        let answer = call_blocks::calls::fill(&mut self.directory, s, &mut self.arena, src, bytes);
+        let answer = call_blocks::calls::fill(
+            &mut self.player.directory,
+            s,
+            loaded(self.arena, self.player.arena_len),
+            src,
+            bytes,
+        );
         answers::ok(&mut self.out, answer);
     }
 
     pub(crate) fn region_peek(&mut self, s: State, src: Src, offset: u64) {
-        let byte = call_regions::region_peek(s, &self.arena, src, offset);
+        let byte = call_regions::region_peek(
+            s,
+            loaded(self.arena, self.player.arena_len),
+            src,
+            offset,
+        );
         answers::byte(&mut self.out, byte);
     }
 
     pub(crate) fn region_write(&mut self, s: State, src: Src, offset: u64, val: u8) {
         let answer = blocks::region_write(
-            &mut self.directory,
+            &mut self.player.directory,
             s,
-            &mut self.arena,
+            loaded(self.arena, self.player.arena_len),
             src,
             offset,
             val,
@@ -135,8 +169,16 @@ impl Player {
     }
 
     pub(crate) fn sync_battery(&mut self, s: State) {
-        let answer = call_blocks::calls::sync_battery(&mut self.directory, s, &mut self.arena);
+        let answer = call_blocks::calls::sync_battery(
+            &mut self.player.directory,
+            s,
+            loaded(self.arena, self.player.arena_len),
+        );
         answers::ok(&mut self.out, answer);
+    }
+
+    pub(crate) fn arena(&mut self) {
+        answers::arena(&mut self.out, loaded(self.arena, self.player.arena_len));
     }
 
     // The image in so many bytes, or at its shorter length.
@@ -149,14 +191,14 @@ impl Player {
 }
 
 // The calls on the directory alone, which take neither state nor arena.
-impl Player {
+impl Session<'_> {
     pub(crate) fn register(&mut self, start: u16, len: u64, number: u32) {
-        let answer = directory::register(&mut self.directory, start, len, number);
+        let answer = directory::register(&mut self.player.directory, start, len, number);
         answers::ok(&mut self.out, answer);
     }
 
     pub(crate) fn lookup(&mut self, start: u16) {
-        let found = directory::lookup(&self.directory, start);
+        let found = directory::lookup(&self.player.directory, start);
         replay_answers::blocks::found(&mut self.out, found);
     }
 }

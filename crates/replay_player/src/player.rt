@@ -6,27 +6,40 @@ use replay_calls::name::{Name, name_of};
 use replay_text::out::Out;
 use replay_text::words::word;
 
-#[derive(Drop)]
+// What lasts beside the lent bytes.
+#[derive(Clone, Copy)]
 pub struct Player {
     // None before the first accepted load.
     pub(crate) state: Option<State>,
-    // The loaded cartridge's bytes.
-    pub(crate) arena: Vec<u8>,
+    // How much of the arena's bytes the cartridge has.
+    pub(crate) arena_len: usize,
     // The blocks of the log.
     pub(crate) directory: [u64; 256],
-    // The answers that are not written yet.
-    pub out: Out,
 }
 
 impl Player {
-    // The arena is empty, and has room for the largest.
-    pub fn new(arena: Vec<u8>, out: Out) -> Player {
+    pub fn new() -> Player {
         Player {
             state: None,
-            arena,
+            arena_len: 0,
             directory: [0; 256],
-            out,
         }
+    }
+}
+
+// A player with the bytes that it is lent.
+#[derive(Drop)]
+pub struct Session<'a> {
+    pub(crate) player: Player,
+    // Room for the largest arena; the loaded cartridge's is at its start.
+    pub(crate) arena: &'a mut [u8],
+    // The answers that are not written yet.
+    pub out: Out<'a>,
+}
+
+impl<'a> Session<'a> {
+    pub fn new(player: Player, arena: &'a mut [u8], out: Out<'a>) -> Session<'a> {
+        Session { player, arena, out }
     }
 
     // A full line was too long. The bytes that a `fill` names are put into `bytes`.
@@ -62,7 +75,7 @@ impl Player {
 
     // A log has a directory from its first cartridge on.
     fn answer_call(&mut self, call: Call) {
-        match (call, self.state) {
+        match (call, self.player.state) {
             (Call::Load(cartridge), _) => self.load(cartridge),
             (_, None) => self.error(b"no cartridge is loaded"),
             (Call::Read(addr), Some(s)) => self.read(s, addr),
@@ -82,12 +95,12 @@ impl Player {
             (Call::SyncBattery, Some(s)) => self.sync_battery(s),
             (Call::RestoreBattery, Some(s)) => self.restore_battery(s),
             (Call::Image(len), Some(s)) => self.image(s, len),
-            (Call::Arena, Some(_)) => answers::arena(&mut self.out, &self.arena),
+            (Call::Arena, Some(_)) => self.arena(),
             (Call::Register(start, len, number), Some(_)) => self.register(start, len, number),
             (Call::Lookup(start), Some(_)) => self.lookup(start),
             (Call::Directory, Some(_)) => replay_answers::blocks::directory(
                 &mut self.out,
-                &self.directory,
+                &self.player.directory,
             ),
         }
     }

@@ -1,74 +1,86 @@
-// Bytes that are put one after the other, up to a room. What no longer fits is left out.
-ghost use Rattle.std.specs.Prelude.{◌≡◌, ◌≤◌, [], length, IfOk, vec_len, vec_capacity, IsTrue, ◌↔◌};
+// Bytes that are put one after the other into lent bytes, up to their number. What no longer fits is left out.
+ghost use Rattle.std.specs.Prelude.{◌≡◌, ◌≤◌, [], length, take, IsTrue, ◌↔◌};
 ghost use Rattle.replay_text.specs.Decimal.{decimal_of};
-ghost use Rattle.replay_text.specs.Hex.{hex_of};
+ghost use Rattle.replay_text.specs.Hex.{hex_of, hex8, hex16, hex32, hex64};
 ghost use Rattle.replay_text.specs.Out.{Put, put_none, put_one, put_all};
 
 use crate::hex::glyph;
-use std::alloc::{AllocError, Global};
 use std::marker::Model;
 
 #[derive(Drop)]
-pub struct Out {
-    bytes: Vec<u8>,
-    room: usize,
+pub struct Out<'a> {
+    bytes: &'a mut [u8],
+    // How many are put.
+    len: usize,
 }
 
-// Clauses see the bytes and the room.
-impl Model for Out {
+// Clauses see the bytes that are put and the room.
+impl<'a> Model for Out<'a> {
+    ghost use Rattle.std.specs.Prelude.{take, length, ◌≤◌};
+    ghost use Rattle.replay_text.specs.Out.{Put};
+
     ghost Value = { Put };
 
-    ghost view = { λ o. record { bytes = o.bytes.items; room = o.room } };
+    ghost view = { λ o. record { bytes = take o.len o.bytes.now; room = length o.bytes.now } };
 
-    ghost invariant = { λ o. (vec_len o.bytes ≤ o.room) × (o.room ≤ vec_capacity o.bytes) };
+    ghost invariant = { λ o. o.len ≤ length o.bytes.now };
 }
 
-impl Out {
-    pub fn with_room(alloc: Global, room: usize) -> Result<Out, AllocError>
-        ensures { IfOk result (λ o. o ≡ put_none room) }
+impl<'a> Out<'a> {
+    // The room is all of the lent bytes.
+    pub fn new(bytes: &'a mut [u8]) -> Out<'a>
+        ensures { result ≡ put_none (length bytes.old) }
     {
-        let bytes = Vec::with_capacity(alloc, room)?;
-        Ok(Out { bytes, room })
+        Out { bytes, len: 0 }
     }
 
     pub fn as_slice(&self) -> &[u8]
         ensures { result.now ≡ self.now.bytes }
     {
-        self.bytes.as_slice()
+        &self.bytes[..self.len]
     }
 
     pub fn len(&self) -> usize
         ensures { result ≡ length self.now.bytes }
     {
-        self.bytes.len()
+        self.len
     }
 
     pub fn is_full(&self) -> bool
         ensures { IsTrue result ↔ (length self.now.bytes ≡ self.now.room) }
     {
-        self.bytes.len() == self.room
+        self.len == self.bytes.len()
     }
 
     pub fn clear(&mut self)
         ensures { self.new ≡ put_none self.old.room }
     {
-        self.bytes.clear();
+        self.len = 0;
     }
 
     #[tactic(auto, unfolding(crate::specs::Out::put_one))]
     pub fn put(&mut self, b: u8)
         ensures { self.new ≡ put_one self.old b }
     {
-        if self.bytes.len() < self.room {
-            self.bytes.push(b).unwrap();
+        if self.len < self.bytes.len() {
+            self.bytes[self.len] = b;
+            self.len += 1;
         }
     }
 
+    #[inline(always)]
     pub fn put_all(&mut self, bytes: &[u8])
         ensures { self.new ≡ put_all self.old bytes.now }
     {
-        let fits = bytes.len().min(self.room - self.bytes.len());
-        self.bytes.extend_from_slice(&bytes[..fits]).unwrap();
+        let room = self.bytes.len() - self.len;
+        // Where all fit their number is the caller's, so a few bytes are stored without a call.
+        if bytes.len() <= room {
+            self.bytes[self.len..self.len + bytes.len()].copy_from_slice(bytes);
+            self.len += bytes.len();
+        } else {
+            self.bytes[self.len..].copy_from_slice(&bytes[..room]);
+            self.len += room;
+        }
     }
 
     pub fn put_decimal(&mut self, n: u64)
@@ -79,13 +91,58 @@ impl Out {
         self.put_all(&digits[..k]);
     }
 
-    // Two upper case digits for each byte.
+    // A byte's two upper case digits; below, those of wider numbers, high half first.
+    pub fn put_hex8(&mut self, n: u8)
+        ensures { self.new ≡ put_all self.old (hex8 n) }
+    {
+        self.put(glyph(n / 16));
+        self.put(glyph(n % 16));
+    }
+
+    pub fn put_hex16(&mut self, n: u16)
+        ensures { self.new ≡ put_all self.old (hex16 n) }
+    {
+        // All at once, here and below: an answer can have thousands of them.
+        let digits = [
+            glyph((n / 256 / 16) as u8),
+            glyph((n / 256 % 16) as u8),
+            glyph((n % 256 / 16) as u8),
+            glyph((n % 256 % 16) as u8),
+        ];
+        self.put_all(&digits);
+    }
+
+    pub fn put_hex32(&mut self, n: u32)
+        ensures { self.new ≡ put_all self.old (hex32 n) }
+    {
+        let high = n / 65_536;
+        let low = n % 65_536;
+        let digits = [
+            glyph((high / 256 / 16) as u8),
+            glyph((high / 256 % 16) as u8),
+            glyph((high % 256 / 16) as u8),
+            glyph((high % 256 % 16) as u8),
+            glyph((low / 256 / 16) as u8),
+            glyph((low / 256 % 16) as u8),
+            glyph((low % 256 / 16) as u8),
+            glyph((low % 256 % 16) as u8),
+        ];
+        self.put_all(&digits);
+    }
+
+    pub fn put_hex64(&mut self, n: u64)
+        ensures { self.new ≡ put_all self.old (hex64 n) }
+    {
+        self.put_hex32((n / 4_294_967_296) as u32);
+        self.put_hex32((n % 4_294_967_296) as u32);
+    }
+
+    // Two digits for each byte.
     pub fn put_hex(&mut self, bytes: &[u8])
         ensures { self.new ≡ put_all self.old (hex_of bytes.now) }
     {
         for &b in bytes {
-            self.put(glyph(b / 16));
-            self.put(glyph(b % 16));
+            self.put_hex8(b);
         }
     }
 }
@@ -94,12 +151,12 @@ impl Out {
 mod tests {
     use super::*;
 
-    // That memory is there is what no clause says.
+    // The lent bytes are the room.
     #[test]
-    fn makes_room(rt: HostRuntime) -> Result<(), AllocError> {
-        let mut out = Out::with_room(rt.alloc(), 2)?;
+    fn makes_room(rt: HostRuntime) {
+        let mut room = [0u8; 2];
+        let mut out = Out::new(&mut room);
         out.put_all(b"ok!");
         assert_eq!(rt; out.as_slice(), b"ok".as_slice());
-        Ok(())
     }
 }

@@ -32,6 +32,9 @@ fn behind(line: &[u8], n: usize) -> &[u8]
     let mut rest = line;
     // So many times, with nothing to go over.
     for _ in 0..n {
+        if rest.is_empty() {
+            return rest;
+        }
         rest = after_space(rest);
     }
     rest

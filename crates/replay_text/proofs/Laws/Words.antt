@@ -1,11 +1,17 @@
 -- What stands behind spaces. Assumes nothing.
-use Rattle.std.proofs.Common.{ℕ, suc, ◌+◌, ◌≡◌, Bool, true, false, cond, not, List, [], ◌∷◌, drop, refl, sym, ap, arith}
+use Rattle.std.proofs.Common.{ℕ, suc, ◌+◌, ◌≡◌, Bool, true, false, cond, not, List, [], ◌∷◌, length, drop, refl, sym, ap, arith}
 use Rattle.replay_text.specs.Words.{is_space, behind, word_length}
 
 pub behind-none : (s : List ℕ) → behind 0 s ≡ s
 unfolding behind
 behind-none [] = refl
 behind-none (b ∷ s) = refl
+
+-- behind a line's end stands nothing more
+pub behind-end : (m : ℕ) (s : List ℕ) → length s ≡ 0 → behind m s ≡ s
+unfolding behind
+behind-end m [] h = refl
+behind-end m (b ∷ s) h = absurd (let z : ⊥ = omega arith in z)
 
 -- one space after the other
 pub behind-one : (m : ℕ) (s : List ℕ) → behind (suc m) s ≡ behind m (behind 1 s)

@@ -4,5 +4,8 @@ use Rattle.std.proofs.lemmas.Grind.{common_steps}
 use Rattle.replay_text.proofs.Laws.Out.{put_take}
 use Rattle.replay_text.proofs.out.Out.put_all.Goals as goal
 
-pub returns : goal.returns
-returns c = grind (arith, common_steps, put_take c.args.self.now c.args.bytes.now)
+pub returns-then-bytes-room : goal.returns-then-bytes-room
+returns-then-bytes-room c = grind (arith, common_steps, put_take c.args.self.now c.args.bytes.now)
+
+pub returns-else-bytes-room : goal.returns-else-bytes-room
+returns-else-bytes-room c = grind (arith, common_steps, put_take c.args.self.now c.args.bytes.now)

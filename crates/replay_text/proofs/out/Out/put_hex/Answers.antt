@@ -10,6 +10,7 @@ unfolding put_all
 loop-b-init c = grind (arith, common_steps)
 
 pub loop-b-preserved : goal.loop-b-preserved
+unfolding put_all
 loop-b-preserved c =
-    rw (c.put-in-loop-b.ensures, c.put.ensures, c.glyph-in-loop-b.ensures, c.glyph.ensures)
+    rw (c.put_hex8.ensures)
     (put-more c.args.self.now c.loop-b.self c.args.bytes.now c.loop-b.b-index c.loop-b-test.true c.loop-b.invariant)
