@@ -40,8 +40,8 @@ fn cpu_byte(s: State, arena: &[u8], addr: u16) -> u8
     }
 }
 
-// This and `cpu_write_known` take a state whose range is known, as `check_arena_known` of call_refusals does. `cpu_peek` and `cpu_write`
-// take any, test it and go on here.
+// This, `cpu_read_known` and `cpu_write_known` take a state whose range is known, as `check_arena_known` of call_refusals does. `cpu_peek`,
+// `cpu_read` and `cpu_write` take any, test it and go on here.
 pub fn cpu_peek_known(s: KnownState, arena: &[u8], addr: u16) -> Result<u8, Refusal>
     ensures { peeked result ≡ cpu_peek s.state arena.now addr }
 {
@@ -63,13 +63,19 @@ pub fn after_read(s: State, addr: u16) -> State
     State { chip, ..s }
 }
 
+pub fn cpu_read_known(s: KnownState, arena: &[u8], addr: u16) -> Result<ByteRead, Refusal>
+    ensures { read_answer s.state result ≡ cpu_read s.state arena.now addr }
+{
+    Ok(ByteRead {
+        byte: cpu_peek_known(s, arena, addr)?,
+        state: after_read(s.state, addr),
+    })
+}
+
 pub fn cpu_read(s: State, arena: &[u8], addr: u16) -> Result<ByteRead, Refusal>
     ensures { read_answer s result ≡ cpu_read s arena.now addr }
 {
-    Ok(ByteRead {
-        byte: cpu_peek(s, arena, addr)?,
-        state: after_read(s, addr),
-    })
+    cpu_read_known(KnownState::new(s)?, arena, addr)
 }
 
 // L11, L21: the registers after a write, and the tables where they are mapped anew. `Sized` is asked as in memory/src/lib.rt.

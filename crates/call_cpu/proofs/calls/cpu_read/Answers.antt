@@ -1,11 +1,9 @@
--- `cpu_read` meets its contract by a peek's: refused, and accepted.
+-- `cpu_read` meets its contract: refused by the state's check, or on with a state in range.
 use Rattle.refusals.proofs.Numbers.{errs}
-use Rattle.call_cpu.proofs.Laws.{read-refused, read-accepted}
+use Rattle.call_refusals.specs.Refusals.{first_of}
+use Rattle.call_cpu.specs.Calls.{cpu_read}
 use Rattle.call_cpu.proofs.calls.cpu_read.Goals as goal
 
-pub returns-in_err-cpu_peek : goal.returns-in_err-cpu_peek
-returns-in_err-cpu_peek c =
-    rw (errs _ _ c.from_residual.ensures.1) (read-refused c.args.s c.args.arena.now c.args.addr _ c.in_err-cpu_peek.ensures)
-
-pub returns : goal.returns
-returns c = rw c.after_read.ensures (read-accepted c.args.s c.args.arena.now c.args.addr _ c.in_ok-cpu_peek.ensures)
+pub returns-in_err-new : goal.returns-in_err-new
+unfolding first_of cpu_read
+returns-in_err-new c = rw (errs _ _ c.from_residual.ensures.1, c.in_err-new.ensures.0, c.in_err-new.ensures.1)
