@@ -7,7 +7,7 @@ ghost use Rattle.image_write.specs.Sections.{chip_at, ram_at, port_at, levels_at
 ghost use Rattle.image_read.specs.Reading.{output_from, read_answer, read_image, read_body};
 ghost use Rattle.image_read.specs.Sections.{fields_at, head_parts, chip_of, sound_at, memory_at, state_at};
 
-use crate::head::Head;
+pub use crate::head::Head;
 use crate::pages::get_pages;
 use crate::words::{
     board_numbered, chr_banks_of, flags_of, high_of, mirroring_numbered, options_numbered,
