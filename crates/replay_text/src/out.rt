@@ -73,7 +73,7 @@ impl<'a> Out<'a> {
         ensures { self.new ≡ put_all self.old bytes.now }
     {
         let room = self.bytes.len() - self.len;
-        // Where all fit their number is the caller's, so a few bytes are stored without a call.
+        // Where all fit, as nearly always, their number is the caller's, and a few bytes are stored without a call.
         if bytes.len() <= room {
             self.bytes[self.len..self.len + bytes.len()].copy_from_slice(bytes);
             self.len += bytes.len();
@@ -102,7 +102,7 @@ impl<'a> Out<'a> {
     pub fn put_hex16(&mut self, n: u16)
         ensures { self.new ≡ put_all self.old (hex16 n) }
     {
-        // All at once, here and below: an answer can have thousands of them.
+        // All four at once: an answer can have thousands of them.
         let digits = [
             glyph((n / 256 / 16) as u8),
             glyph((n / 256 % 16) as u8),
@@ -115,19 +115,8 @@ impl<'a> Out<'a> {
     pub fn put_hex32(&mut self, n: u32)
         ensures { self.new ≡ put_all self.old (hex32 n) }
     {
-        let high = n / 65_536;
-        let low = n % 65_536;
-        let digits = [
-            glyph((high / 256 / 16) as u8),
-            glyph((high / 256 % 16) as u8),
-            glyph((high % 256 / 16) as u8),
-            glyph((high % 256 % 16) as u8),
-            glyph((low / 256 / 16) as u8),
-            glyph((low / 256 % 16) as u8),
-            glyph((low % 256 / 16) as u8),
-            glyph((low % 256 % 16) as u8),
-        ];
-        self.put_all(&digits);
+        self.put_hex16((n / 65_536) as u16);
+        self.put_hex16((n % 65_536) as u16);
     }
 
     pub fn put_hex64(&mut self, n: u64)

@@ -1,17 +1,7 @@
--- The digits one by one.
-use Rattle.std.proofs.Common.{◌∙◌}
+-- The high half's digits stand before the low half's.
+use Rattle.std.proofs.Common.{sym}
+use Rattle.replay_text.proofs.Laws.Out.{put-append}
 use Rattle.replay_text.proofs.out.Out.put_hex32.Goals as goal
 
 pub returns : goal.returns
-returns c =
-    c.put_all.ensures
-    ∙ rw (
-      c.glyph.ensures,
-      c.glyph-2.ensures,
-      c.glyph-3.ensures,
-      c.glyph-4.ensures,
-      c.glyph-5.ensures,
-      c.glyph-6.ensures,
-      c.glyph-7.ensures,
-      c.glyph-8.ensures,
-    )
+returns c = rw (c.put_hex16-2.ensures, c.put_hex16.ensures) (sym (put-append c.args.self.now _ _))
